@@ -1,0 +1,172 @@
+// What a gate gives of its pins: of one value each, and of one word each, in which bit t is the value at time t.
+ghost use mathlib.Core.Path.{_≡_};
+ghost use mathlib.Core.Bool.{false};
+ghost use Prim.Native.Nat.{ℕ, _<_, _≤_};
+ghost use lib.ListN.{getD};
+ghost use Rattle.lists.specs.Entries.{some};
+ghost use Rattle.lists.specs.Listed.{listed};
+ghost use Rattle.word.specs.Word.{bit, differ, movedUp};
+ghost use Rattle.gate.specs.Gate.{controls, inverts, controlled, odd, gate, column};
+
+pub struct Rule {
+    pub controlling: bool,
+    pub inversion: bool,
+}
+
+// Document 002's table, a row for each gate type: BUF, NOT, AND, NAND, OR, NOR, XOR, XNOR. BUF and XOR stand beside their
+// inversions NOT and XNOR; those four have no controlling value, and nothing reads it.
+const RULES: [Rule; 8] = [
+    Rule {
+        controlling: false, // BUF
+        inversion: false,
+    },
+    Rule {
+        controlling: false,
+        inversion: true, // NOT
+    },
+    Rule {
+        controlling: false, // AND
+        inversion: false,
+    },
+    Rule {
+        controlling: false,
+        inversion: true, // NAND
+    },
+    Rule {
+        controlling: true, // OR
+        inversion: false,
+    },
+    Rule {
+        controlling: true,
+        inversion: true, // NOR
+    },
+    Rule {
+        controlling: false, // XOR
+        inversion: false,
+    },
+    Rule {
+        controlling: false,
+        inversion: true, // XNOR
+    },
+];
+
+// A gate type's row.
+fn rule_of(ty: usize) -> Rule
+    requires { ⌜ ty < 8 ⌝ }
+    ensures { λ r. ⌜ (r .controlling ≡ controls ty) × (r .inversion ≡ inverts ty) ⌝ }
+{
+    RULES[ty]
+}
+
+// Whether some pin differs from m.
+fn some_differ(pins: &[bool; 8], n: usize, m: bool) -> bool
+    requires { ⌜ n ≤ 8 ⌝ }
+    ensures { λ r. ⌜ r ≡ some (λ p. differ p m) (listed (λ i. getD (now (pins .entry)) i false) n) ⌝ }
+{
+    let mut acc = false;
+    let mut i: usize = 0;
+    while i < n {
+        acc |= pins[i] ^ m;
+        i += 1;
+    }
+    acc
+}
+
+// The same at every time.
+fn some_differ_word(pins: &[u64; 8], n: usize, m: u64) -> u64
+    requires { ⌜ n ≤ 8 ⌝ }
+    ensures { λ r. ⌜ ((t : ℕ) → bit r t ≡ some (λ p. differ p (bit m t)) (column t (now (pins .entry)) n)) ⌝ }
+{
+    let mut word: u64 = 0;
+    let mut i: usize = 0;
+    while i < n {
+        word |= pins[i] ^ m;
+        i += 1;
+    }
+    word
+}
+
+// Whether an odd number of pins is 1.
+fn odd_of(pins: &[bool; 8], n: usize) -> bool
+    requires { ⌜ n ≤ 8 ⌝ }
+    ensures { λ r. ⌜ r ≡ odd (listed (λ i. getD (now (pins .entry)) i false) n) ⌝ }
+{
+    let mut acc = false;
+    let mut i: usize = 0;
+    while i < n {
+        acc ^= pins[i];
+        i += 1;
+    }
+    acc
+}
+
+// The same at every time.
+fn odd_word(pins: &[u64; 8], n: usize) -> u64
+    requires { ⌜ n ≤ 8 ⌝ }
+    ensures { λ r. ⌜ ((t : ℕ) → bit r t ≡ odd (column t (now (pins .entry)) n)) ⌝ }
+{
+    let mut word: u64 = 0;
+    let mut i: usize = 0;
+    while i < n {
+        word ^= pins[i];
+        i += 1;
+    }
+    word
+}
+
+// A gate with a controlling value: that value where some pin has it, else the other, inverted where the rule says so.
+fn controlled_bit(rule: Rule, pins: &[bool; 8], n: usize) -> bool
+    requires { ⌜ n ≤ 8 ⌝ }
+    ensures { λ r. ⌜ r ≡ controlled (rule .controlling) (rule .inversion) (listed (λ i. getD (now (pins .entry)) i false) n) ⌝ }
+{
+    let m = !rule.controlling;
+    some_differ(pins, n, m) ^ m ^ rule.inversion
+}
+
+// The same at every time.
+fn controlled_word(rule: Rule, pins: &[u64; 8], n: usize) -> u64
+    requires { ⌜ n ≤ 8 ⌝ }
+    ensures { λ r. ⌜ ((t : ℕ) → t < 64 → bit r t ≡ controlled (rule .controlling) (rule .inversion) (column t (now (pins .entry)) n)) ⌝ }
+{
+    let m = word::spread(!rule.controlling);
+    let i = word::spread(rule.inversion);
+    some_differ_word(pins, n, m) ^ m ^ i
+}
+
+// A gate's value of its pins' values.
+pub fn gate_bit(ty: usize, pins: &[bool; 8], n: usize) -> bool
+    requires { ⌜ (ty < 8) × (0 < n) × (n ≤ 8) ⌝ }
+    ensures { λ r. ⌜ r ≡ gate ty (listed (λ i. getD (now (pins .entry)) i false) n) ⌝ }
+{
+    let rule = rule_of(ty);
+    if ty < 2 {
+        return pins[0] ^ rule.inversion;
+    }
+    if ty < 6 {
+        return controlled_bit(rule, pins, n);
+    }
+    odd_of(pins, n) ^ rule.inversion
+}
+
+// A gate's word of its pins' words: at each time the gate's value of the pins' values.
+pub fn gate_word(ty: usize, pins: &[u64; 8], n: usize) -> u64
+    requires { ⌜ (ty < 8) × (0 < n) × (n ≤ 8) ⌝ }
+    ensures { λ r. ⌜ ((t : ℕ) → t < 64 → bit r t ≡ gate ty (column t (now (pins .entry)) n)) ⌝ }
+{
+    let rule = rule_of(ty);
+    if ty < 2 {
+        return pins[0] ^ word::spread(rule.inversion);
+    }
+    if ty < 6 {
+        return controlled_word(rule, pins, n);
+    }
+    odd_word(pins, n) ^ word::spread(rule.inversion)
+}
+
+// A gate's field: its word of its pins' words, moved up by one, with the before value in bit 0.
+pub fn field(ty: usize, pins: &[u64; 8], n: usize, before: bool) -> u64
+    requires { ⌜ (ty < 8) × (0 < n) × (n ≤ 8) ⌝ }
+    ensures { λ r. ⌜ ((t : ℕ) → t < 64 → bit r t ≡ movedUp before (λ u. gate ty (column u (now (pins .entry)) n)) t) ⌝ }
+{
+    word::up(gate_word(ty, pins, n), before)
+}

@@ -1,0 +1,55 @@
+-- Lists whose entries stand in an order, and lists in which no entry stands twice. Assumes nothing.
+use mathlib.Core.Path.{_≡_, refl, sym, ap, _∙_, subst}
+use mathlib.Core.Bool.{Bool, true, false}
+use mathlib.Core.List.{List, [], _∷_, _++_, List·Memᴰ, List·Memᴰ·head, List·Memᴰ·tail, List·Memᴰ·append-cases, Memᴰ·append-left, Memᴰ·append-right}
+use mathlib.Core.Logic.{_⊎_, inl, inr}
+use Prim.Native.Nat.{ℕ, zero, suc, _+_, _≤_, _<_}
+use native.Mathlib.Omega.{arith}
+use Rattle.lists.specs.Entries.{_∈_, each, when, from, Sorted, Distinct}
+use Rattle.lists.proofs.Joined.{out-each, out-from}
+
+module _ {A : Type 0} where
+  pub sorted-append : (R : A → A → Type 0) (xs ys : List A) → Sorted R xs → Sorted R ys → ((x y : A) → x ∈ xs → y ∈ ys → R x y) → Sorted R (xs ++ ys)
+  sorted-append R [] ys sx sy h = sy
+  sorted-append R (x ∷ xs) ys sx sy h =
+      (λ y m. go y (List·Memᴰ·append-cases xs m), sorted-append R xs ys (sx .1) sy (λ a b m n. h a b (List·Memᴰ·tail m) n))
+    where
+      go : (y : A) → (y ∈ xs) ⊎ (y ∈ ys) → R x y
+      go y (inl m) = sx .0 y m
+      go y (inr m) = h x y (List·Memᴰ·head refl) m
+
+  pub sorted-when : (R : A → A → Type 0) (b : Bool) (xs : List A) → Sorted R xs → Sorted R (when b xs)
+  sorted-when R true xs s = s
+  sorted-when R false xs s = tt
+
+  pub sorted-one : (R : A → A → Type 0) (x : A) → Sorted R (x ∷ [])
+  sorted-one R x = (λ y m. absurd (mathlib.Core.List.List·Memᴰ·not-nil m), tt)
+
+  -- a weaker order, on the entries
+  pub sorted-weaken : (R S : A → A → Type 0) (xs : List A) → ((x y : A) → x ∈ xs → y ∈ xs → R x y → S x y) → Sorted R xs → Sorted S xs
+  sorted-weaken R S [] h s = tt
+  sorted-weaken R S (x ∷ xs) h s =
+      (λ y m. h x y (List·Memᴰ·head refl) (List·Memᴰ·tail m) (s .0 y m), sorted-weaken R S xs (λ a b m n. h a b (List·Memᴰ·tail m) (List·Memᴰ·tail n)) (s .1))
+
+  -- where nothing stands in R to itself no entry stands twice
+  pub distinct-of-sorted : (R : A → A → Type 0) (xs : List A) → ((x : A) → R x x → ⊥) → Sorted R xs → Distinct xs
+  distinct-of-sorted R xs never s = sorted-weaken R (λ x y. ¬ (x ≡ y)) xs (λ x y m n r e. never y (subst (λ z. R z y) e r)) s
+
+  -- in the order of a split list
+  pub sorted-split : (R : A → A → Type 0) (xs : List A) (k : A) (ys : List A) → Sorted R (xs ++ k ∷ ys) → (y : A) → y ∈ ys → R k y
+  sorted-split R [] k ys s y m = s .0 y m
+  sorted-split R (x ∷ xs) k ys s y m = sorted-split R xs k ys (s .1) y m
+
+pub sorted-from : (a k : ℕ) → Sorted _<_ (from a k)
+sorted-from a zero = tt
+sorted-from a (suc k) = (λ y m. omega (arith, out-from (suc a) k y m .0), sorted-from (suc a) k)
+
+-- lists that are each in order, joined in an order that carries over to their entries
+pub sorted-each : {A B : Type 0} (Q : A → A → Type 0) (R : B → B → Type 0) (f : A → List B) (xs : List A)
+    → ((x : A) → x ∈ xs → Sorted R (f x)) → ((x y : A) (a b : B) → Q x y → a ∈ f x → b ∈ f y → R a b) → Sorted Q xs → Sorted R (each f xs)
+sorted-each Q R f [] inner across s = tt
+sorted-each Q R f (x ∷ xs) inner across s =
+    sorted-append R (f x) (each f xs) (inner x (List·Memᴰ·head refl)) (sorted-each Q R f xs (λ y m. inner y (List·Memᴰ·tail m)) across (s .1)) later
+  where
+    later : (a b : _) → a ∈ f x → b ∈ each f xs → R a b
+    later a b m n = let r = out-each f xs b n in across x (r .0) a b (s .0 (r .0) (r .1)) m (r .2)

@@ -1,0 +1,12 @@
+pub mod Timing
+pub mod Levels
+pub mod Loops
+pub mod Runs
+pub mod Nets
+pub mod Chains
+pub mod Values
+pub mod Depths
+pub mod Rests
+pub mod GateOrders
+pub mod StepRuns
+pub mod StepLists

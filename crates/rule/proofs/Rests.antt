@@ -1,0 +1,115 @@
+-- Rest: on a card whose pins name nets or are open, whose gates have pins and which has no loop, there is one settled state for given
+-- inputs; from any start a net has its settled value from its level on; so every vector starts settled from the last one's end.
+-- Assumes nothing.
+use mathlib.Core.Path.{_≡_, refl, sym, ap, _∙_, subst}
+use mathlib.Core.Bool.{Bool, true, false, true≢false}
+use mathlib.Core.List.{List, [], _∷_, map}
+use mathlib.Core.Logic.{_⊎_, inl, inr}
+use Prim.Native.Nat.{ℕ, zero, suc, _+_, _-_, _≤_, _<_}
+use native.Mathlib.Nat.{sub-zero}
+use native.Mathlib.Omega.{arith}
+use lib.ListN.{length}
+use Rattle.lists.specs.Entries.{_∈_}
+use Rattle.lists.proofs.Tests.{map-on, map-ext}
+use Rattle.gate.specs.Gate.{gate as gateFn}
+use Rattle.rule.specs.Net.{Net, input, constant, gate, openPin, openValue, atPin, netAt, pins, pinsOf, isSource, Named, Pinned}
+use Rattle.rule.specs.Rule.{first, value, Settled, AtRest, Rest}
+use Rattle.rule.specs.Level.{level, depth, Looped}
+use Rattle.rule.proofs.Timing.{Steady, arrives, ends-settled}
+use Rattle.rule.proofs.Nets.{at-open, at-pin-all, net-open, source-pins, gate-listed}
+use Rattle.rule.proofs.Values.{netFn, source-keeps, constant-is, input-is, open-reads, moves}
+use Rattle.rule.proofs.Depths.{level-up, level-depth, gate-level}
+
+module _ (c : List Net) (free : ¬ Looped c) (pinned : Pinned c) (before new : ℕ → Bool) where
+  abbrev fn : ℕ → List Bool → Bool
+  fn n = netFn (netAt c n) (value c before new n 0)
+
+  -- the values alone, whatever came before them: the time 0 twice
+  abbrev late : ℕ → ℕ → Bool
+  late n t = value c before new n (t - 1)
+
+  -- they follow the rule from the level on
+  late-moves : (n t : ℕ) → level c n ≤ t → late n (suc t) ≡ fn n (map (λ p. late p (t - 0)) (pins c n))
+  unfolding netFn
+  late-moves n zero l = go (isSource (netAt c n)) refl
+    where
+      own : (w : Net) (x : Bool) (vs : List Bool) → isSource w ≡ true → x ≡ netFn w x vs
+      own input x vs e = refl
+      own (constant k) x vs e = refl
+      own (gate ty ps) x vs e = absurd (true≢false (sym e))
+
+      go : (b : Bool) → isSource (netAt c n) ≡ b → late n 1 ≡ fn n (map (λ p. late p (0 - 0)) (pins c n))
+      go true e = own (netAt c n) (value c before new n 0) _ e
+      go false e = absurd (omega (arith, gate-level c free pinned n e))
+  late-moves n (suc t) l =
+      let x : suc (suc t) - 1 ≡ suc t = omega arith in
+      let y : suc t - 0 - 1 ≡ t = omega arith in
+      ap (value c before new n) x ∙ moves c before new n t ∙ rw y
+
+  module _ (d : ℕ) (low : (n : ℕ) → level c n ≤ d) where
+    end-steady : (n : ℕ) → value c before new n d ≡ fn n (map (λ p. value c before new p d) (pins c n))
+    unfolding Steady
+    end-steady n =
+        let x : suc d - 1 ≡ d = omega arith in
+        rw x at (ends-settled (pins c) (λ m. 0) (level c) (level-up c free) fn late late-moves d low n)
+
+    -- from any start all is at rest from the depth on
+    pub ends-at-rest : AtRest c (λ n. value c before new n d)
+    unfolding AtRest netFn
+    ends-at-rest n l = go (netAt c n) refl (end-steady n)
+      where
+        go : (w : Net) → netAt c n ≡ w → value c before new n d ≡ netFn w (value c before new n 0) (map (λ p. value c before new p d) (pinsOf w))
+            → Settled w (value c before new n d) (λ m. value c before new m d)
+        go input e h = tt
+        go (constant k) e h = constant-is c before new n d k e
+        go (gate ty ps) e h = h ∙ ap (gateFn ty) (map-ext _ _ ps (λ p. sym (open-reads c before new p d)))
+
+    -- a rest exists
+    pub rest-exists : Rest c new (λ n. value c before new n d)
+    rest-exists = record { calm = ends-at-rest; given = λ n l e. input-is c before new n d e }
+
+  -- a rest state, with what the pins read: at a source the value that it is given
+  module _ (named : Named c) (v : ℕ → Bool) (r : Rest c new v) where
+    abbrev full : ℕ → Bool
+    full n = first (netAt c n) (new n) (v n)
+
+    full-is : (n : ℕ) → n < length c → v n ≡ full n
+    unfolding AtRest
+    full-is n l = go (netAt c n) refl
+      where
+        go : (w : Net) → netAt c n ≡ w → v n ≡ first w (new n) (v n)
+        go input e = r .given n l e
+        go (constant k) e = subst (λ w. Settled w (v n) v) e (r .calm n l)
+        go (gate ty ps) e = refl
+
+    reads-full : (n p : ℕ) → p ∈ pins c n → atPin openValue v p ≡ full p
+    reads-full n p m = go (named n p m)
+      where
+        open-full : openValue ≡ full openPin
+        open-full = sym (ap (λ w. first w (new openPin) (v openPin)) (net-open c))
+
+        go : (p < length c) ⊎ (p ≡ openPin) → atPin openValue v p ≡ full p
+        go (inl l) = at-pin-all (λ q x. x ≡ full q) openValue v p open-full (full-is p l)
+        go (inr e) = rw e (at-open openValue v ∙ open-full)
+
+    full-steady : (n : ℕ) → Steady (pins c) fn full n
+    unfolding Steady netFn value AtRest
+    full-steady n = go (netAt c n) refl
+      where
+        go : (w : Net) → netAt c n ≡ w → first w (new n) (v n) ≡ netFn w (first w (new n) (before n)) (map full (pinsOf w))
+        go input e = refl
+        go (constant k) e = refl
+        go (gate ty ps) e =
+            subst (λ w. Settled w (v n) v) e (r .calm n (gate-listed c n (ap isSource e)))
+            ∙ ap (gateFn ty) (map-on _ _ ps (λ p m. reads-full n p (rw e m)))
+
+    -- "from its level onward it has its settled value", from any start
+    pub settles-at-level : (n t : ℕ) → n < length c → level c n ≤ t → value c before new n t ≡ v n
+    settles-at-level n t l h =
+        let x : suc t - 1 ≡ t = omega arith in
+        (rw x at (arrives (pins c) (λ m. 0) (level c) (level-up c free) fn full full-steady late late-moves n t h)) ∙ sym (full-is n l)
+
+-- there is one rest for given inputs
+pub rest-unique : (c : List Net) → ¬ Looped c → Pinned c → Named c → (new v w : ℕ → Bool) → Rest c new v → Rest c new w → (n : ℕ) → n < length c → v n ≡ w n
+rest-unique c free pinned named new v w rv rw′ n l =
+    sym (settles-at-level c free pinned v new named v rv n (level c n) l (omega arith)) ∙ settles-at-level c free pinned v new named w rw′ n (level c n) l (omega arith)

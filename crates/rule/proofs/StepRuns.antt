@@ -1,0 +1,131 @@
+-- The steps of a card, done in any good order: each step, when it is reached, gives the rule's value, and the whole run leaves the
+-- rule's history. From a settled start. Assumes nothing.
+use mathlib.Core.Path.{_≡_, refl, sym, ap, ap₂, _∙_, subst}
+use mathlib.Core.Bool.{Bool, true, false, _&&_, true≢false}
+use mathlib.Core.List.{List, [], _∷_, _++_, map, map-map}
+use mathlib.Core.Logic.{_⊎_, inl, inr, ⊎-elim}
+use Prim.Native.Nat.{ℕ, zero, suc, _+_, _≤_, _<_}
+use native.Mathlib.Omega.{arith}
+use native.Mathlib.Decide.{ℕ-discrete}
+use lib.Dec.{eqb}
+use lib.ListN.{length, take}
+use borrow.Author.Tests.{eq-eqb, eqb-true}
+use Rattle.lists.specs.Entries.{_∈_, Sorted}
+use Rattle.lists.proofs.Bools.{and-both, and-make}
+use Rattle.lists.proofs.Tests.{map-ext, out-map}
+use Rattle.word.specs.Times.{greatest, zeroIn}
+use Rattle.word.proofs.Sets.{greatest-in, greatest-lt}
+use Rattle.gate.specs.Gate.{gate as gateFn}
+use Rattle.rule.specs.Net.{Net, input, constant, gate, netAt, pins, pinsOf, isSource}
+use Rattle.rule.specs.Rule.{next, value, AtRest}
+use Rattle.rule.specs.Chain.{pcSet}
+use Rattle.rule.specs.Run.{made, run, ready}
+use Rattle.rule.specs.Steps.{Step, sameStep, IsStep, readAt, stepReads, stepFn, GoodOrder}
+use Rattle.rule.proofs.Chains.{set-of-gate, gate-set}
+use Rattle.rule.proofs.Values.{read-is}
+use Rattle.rule.proofs.Runs.{ready-of-pairs, ready-take, take-in, reached-right, run-right}
+
+-- Names of variables
+
+pub same-one : (j k : Step) → sameStep j k ≡ true → j ≡ k
+same-one j k e =
+    let o = and-both (eqb (j .net) (k .net)) (eqb (j .time) (k .time)) e in
+    λ i. record { net = eqb-true (j .net) (k .net) (o .0) i; time = eqb-true (j .time) (k .time) (o .1) i }
+
+pub same-self : (k : Step) → sameStep k k ≡ true
+same-self k = and-make _ _ (eq-eqb (k .net) (k .net) refl) (eq-eqb (k .time) (k .time) refl)
+
+-- the variables that are there ahead of all steps: those of time 0
+abbrev pub ahead : Step → Bool
+ahead k = eqb (k .time) 0
+
+module _ (c : List Net) where
+  -- a step's time is 1 or more, and what it reads is earlier
+  pub step-time : (k : Step) → IsStep c k → 0 < k .time
+  step-time k s = gate-set c (k .net) (k .time) (s .gated) (s .element)
+
+  read-earlier : (k j : Step) → IsStep c k → j ∈ stepReads c k → j .time < k .time
+  unfolding stepReads readAt
+  read-earlier k j s m =
+      let r = out-map (readAt c (k .time)) (pins c (k .net)) j m in
+      let e : j .time ≡ greatest (zeroIn (pcSet c (r .0))) (k .time) 0 = ap (λ x. x .time) (r .2) in
+      omega (arith, greatest-lt (zeroIn (pcSet c (r .0))) (k .time) 0 (step-time k s))
+
+  -- a variable that is read is there from the start or is a step's
+  pub read-there : (t p : ℕ) → (ahead (readAt c t p) ≡ true) ⊎ IsStep c (readAt c t p)
+  unfolding readAt
+  read-there t p = go (ℕ-discrete g 0) (greatest-in (zeroIn (pcSet c p)) t 0)
+    where
+      g : ℕ
+      g = greatest (zeroIn (pcSet c p)) t 0
+
+      element : (u : ℕ) → 0 < u → zeroIn (pcSet c p) u ≡ true → pcSet c p u ≡ true
+      element zero l e = absurd (omega arith)
+      element (suc u) l e = e
+
+      go : Dec (g ≡ 0) → (g ≡ 0) ⊎ ((g < t) × (zeroIn (pcSet c p) g ≡ true)) → (eqb g 0 ≡ true) ⊎ IsStep c (record { net = p; time = g })
+      go (yes e) h = inl (eq-eqb g 0 e)
+      go (no e) (inl h) = absurd (e h)
+      go (no e) (inr h) =
+          let l : 0 < g = omega arith in
+          let x = element g l (h .1) in
+          inr (record { gated = set-of-gate c p g l x; element = x })
+
+  -- a good order is ready: no step is reached before what it reads is there
+  pub good-ready : (ks : List Step) → GoodOrder c ks → ready sameStep (stepReads c) ahead ks ≡ true
+  unfolding stepReads
+  good-ready ks good =
+      ready-of-pairs sameStep (stepReads c) same-one same-self ahead ks full (λ k m r. let l = read-earlier k k (good .only k m) r in omega arith) (good .after)
+    where
+      full : (k j : Step) → k ∈ ks → j ∈ stepReads c k → (ahead j ≡ true) ⊎ (j ∈ ks)
+      full k j m r =
+          let o = out-map (readAt c (k .time)) (pins c (k .net)) j r in
+          rw (o .2) (⊎-elim (λ e. inl e) (λ s. inr (good .all _ s)) (read-there (k .time) (o .0)))
+
+  module _ (before new : ℕ → Bool) (calm : AtRest c before) where
+    -- the proper value of a variable
+    abbrev pub proper : Step → Bool
+    proper k = value c before new (k .net) (k .time)
+
+    -- a step's function of the proper values that it reads is its own
+    pub step-meets : (k : Step) → IsStep c k → proper k ≡ stepFn c k (map proper (stepReads c k))
+    unfolding stepReads readAt stepFn value
+    step-meets k s = go (k .time) (step-time k s) (netAt c (k .net)) refl (s .gated)
+      where
+        pin : (t p : ℕ) → value c before new p t ≡ proper (readAt c (suc t) p)
+        pin t p = sym (read-is c before new calm p t)
+
+        go : (t : ℕ) → 0 < t → (w : Net) → netAt c (k .net) ≡ w → isSource w ≡ false
+            → value c before new (k .net) t ≡ stepFn c (record { net = k .net; time = t }) (map proper (map (readAt c t) (pins c (k .net))))
+        go zero l w e q = absurd (omega arith)
+        go (suc t) l input e q = absurd (true≢false q)
+        go (suc t) l (constant b) e q = absurd (true≢false q)
+        go (suc t) l (gate ty ps) e q =
+            rw e (ap (gateFn ty) (map-ext _ _ ps (pin t) ∙ sym (map-map proper (readAt c (suc t)) ps)))
+
+    -- from variables that hold the values at time 0
+    module _ (s : Step → Bool) (start : (k : Step) → ahead k ≡ true → s k ≡ proper k) (ks : List Step) (good : GoodOrder c ks) where
+      -- "each step gives its proper value when it is reached"
+      pub reached : (xs : List Step) (k : Step) (ys : List Step) → ks ≡ xs ++ k ∷ ys
+          → made sameStep (stepReads c) (stepFn c) (run sameStep (stepReads c) (stepFn c) s xs) k ≡ proper k
+      reached xs k ys e =
+          reached-right sameStep (stepReads c) same-one same-self (stepFn c) proper (IsStep c) step-meets ahead s xs k ys
+          (λ j m. good .only j (rw e m)) start (rw e at (good-ready ks good))
+
+      -- along the first m entries each step done has its value,
+      pub left-by-first : (m : ℕ) (k : Step) → k ∈ take m ks → run sameStep (stepReads c) (stepFn c) s (take m ks) k ≡ proper k
+      left-by-first m k i =
+          run-right sameStep (stepReads c) same-one same-self (stepFn c) proper (IsStep c) step-meets ahead s (take m ks)
+          (λ j h. good .only j (take-in m ks j h)) start (ready-take sameStep (stepReads c) ahead ks m (good-ready ks good)) k (inr i)
+
+      left-all : (k : Step) → (ahead k ≡ true) ⊎ IsStep c k → run sameStep (stepReads c) (stepFn c) s ks k ≡ proper k
+      left-all k h =
+          run-right sameStep (stepReads c) same-one same-self (stepFn c) proper (IsStep c) step-meets ahead s ks
+          (λ j m. good .only j m) start (good-ready ks good) k (⊎-elim (λ e. inl e) (λ q. inr (good .all k q)) h)
+
+      -- and "the whole run ends with the rule's history": a net's value at t stands in the variable of its largest element not above t
+      pub left-history : (n t : ℕ) → run sameStep (stepReads c) (stepFn c) s ks (readAt c (suc t) n) ≡ value c before new n t
+      left-history n t = left-all (readAt c (suc t) n) (read-there (suc t) n) ∙ read n t
+        where
+          read : (n t : ℕ) → proper (readAt c (suc t) n) ≡ value c before new n t
+          read n t = unfold readAt in read-is c before new calm n t

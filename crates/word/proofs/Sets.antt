@@ -1,0 +1,132 @@
+-- Sets of times as tests: that equal tests have equal counts, least and largest elements, and what these are. Assumes nothing.
+use mathlib.Core.Path.{_≡_, refl, sym, ap, ap₂, _∙_, subst}
+use mathlib.Core.Bool.{Bool, true, false, cond, false≢true}
+use mathlib.Core.Logic.{_⊎_, inl, inr, ⊎-elim}
+use Prim.Native.Nat.{ℕ, zero, suc, _+_, _≤_, _<_}
+use native.Mathlib.Nat.{le-of-eq, le-suc-iff, eq-or-lt-of-le, lt-suc-self, le-step, not-suc-le-zero, le-of-suc-le-suc}
+use native.Mathlib.Omega.{arith}
+use lib.Arith.{le-zero}
+use Rattle.word.specs.Word.{val}
+use Rattle.word.specs.Times.{count, least, greatest, zeroIn}
+use Rattle.word.proofs.Words.{val-lt}
+
+-- `count`
+
+pub count-cong : (f g : ℕ → Bool) (n : ℕ) → ((t : ℕ) → t < n → f t ≡ g t) → count f n ≡ count g n
+unfolding count
+count-cong f g zero h = refl
+count-cong f g (suc n) h = ap₂ (λ (b : Bool) (c : ℕ). val b + c) (h n (lt-suc-self n)) (count-cong f g n (λ t l. h t (le-step l)))
+
+pub count-le : (f : ℕ → Bool) (n : ℕ) → count f n ≤ n
+unfolding count
+count-le f zero = omega arith
+count-le f (suc n) = let h = count-le f n in omega (arith, val-lt (f n))
+
+-- `least`
+
+pub least-cong : (f g : ℕ → Bool) (n : ℕ) → ((t : ℕ) → f t ≡ g t) → least f n ≡ least g n
+unfolding least
+least-cong f g zero h = refl
+least-cong f g (suc n) h = ap₂ (λ (b : Bool) (c : ℕ). cond b 0 (suc c)) (h 0) (least-cong (λ (i : ℕ). f (suc i)) (λ (i : ℕ). g (suc i)) n (λ t. h (suc t)))
+
+-- it is in the set, and no element is less
+pub least-le : (f : ℕ → Bool) (n r : ℕ) → r < n → f r ≡ true → (least f n ≤ r) × (f (least f n) ≡ true)
+unfolding least
+least-le f zero r l e = absurd (not-suc-le-zero l)
+least-le f (suc n) zero l e = (le-of-eq (ap (λ (b : Bool). cond b 0 (suc (least (λ (i : ℕ). f (suc i)) n))) e), ap f (ap (λ (b : Bool). cond b 0 (suc (least (λ (i : ℕ). f (suc i)) n))) e) ∙ e)
+least-le f (suc n) (suc r) l e = go (f 0) refl (least-le (λ (i : ℕ). f (suc i)) n r (le-of-suc-le-suc l) e)
+  where
+    m : ℕ
+    m = least (λ (i : ℕ). f (suc i)) n
+
+    go : (b : Bool) → f 0 ≡ b → (m ≤ r) × (f (suc m) ≡ true) → (cond (f 0) 0 (suc m) ≤ suc r) × (f (cond (f 0) 0 (suc m)) ≡ true)
+    go true p ih = let q : cond (f 0) 0 (suc m) ≡ 0 = ap (λ (b : Bool). cond b 0 (suc m)) p in (omega arith, ap f q ∙ p)
+    go false p ih = let q : cond (f 0) 0 (suc m) ≡ suc m = ap (λ (b : Bool). cond b 0 (suc m)) p in (omega (arith, ih .0), ap f q ∙ ih .1)
+
+-- where nothing is in the set it is the bound
+pub least-none : (f : ℕ → Bool) (n : ℕ) → ((s : ℕ) → s < n → f s ≡ false) → least f n ≡ n
+unfolding least
+least-none f zero h = refl
+least-none f (suc n) h =
+    ap (λ (b : Bool). cond b 0 (suc (least (λ (i : ℕ). f (suc i)) n))) (h 0 (omega arith)) ∙ ap suc (least-none (λ (i : ℕ). f (suc i)) n (λ s l. h (suc s) (omega arith)))
+
+-- `greatest`
+
+pub greatest-is : (f : ℕ → Bool) (n none r : ℕ) → r < n → f r ≡ true → ((s : ℕ) → r < s → s < n → f s ≡ false) → greatest f n none ≡ r
+unfolding greatest
+greatest-is f zero none r l e h = absurd (not-suc-le-zero l)
+greatest-is f (suc n) none r l e h =
+    ⊎-elim
+    (λ (same : r ≡ n). ap (λ (b : Bool). cond b n (greatest f n none)) (ap f (sym same) ∙ e) ∙ sym same)
+    (λ (lt : r < n). ap (λ (b : Bool). cond b n (greatest f n none)) (h n lt (lt-suc-self n)) ∙ greatest-is f n none r lt e (λ s p q. h s p (le-step q)))
+    (eq-or-lt-of-le (le-of-suc-le-suc l))
+
+pub greatest-none : (f : ℕ → Bool) (n none : ℕ) → ((s : ℕ) → s < n → f s ≡ false) → greatest f n none ≡ none
+unfolding greatest
+greatest-none f zero none h = refl
+greatest-none f (suc n) none h = ap (λ (b : Bool). cond b n (greatest f n none)) (h n (lt-suc-self n)) ∙ greatest-none f n none (λ s l. h s (le-step l))
+
+pub greatest-cong : (f g : ℕ → Bool) (n none : ℕ) → ((t : ℕ) → t < n → f t ≡ g t) → greatest f n none ≡ greatest g n none
+unfolding greatest
+greatest-cong f g zero none h = refl
+greatest-cong f g (suc n) none h = ap₂ (λ (b : Bool) (c : ℕ). cond b n c) (h n (lt-suc-self n)) (greatest-cong f g n none (λ t l. h t (le-step l)))
+
+-- it is in the set, and no element below n is larger
+pub greatest-ge : (f : ℕ → Bool) (n none r : ℕ) → r < n → f r ≡ true → (r ≤ greatest f n none) × (greatest f n none < n) × (f (greatest f n none) ≡ true)
+unfolding greatest
+greatest-ge f zero none r l e = absurd (not-suc-le-zero l)
+greatest-ge f (suc n) none r l e = go (f n) refl (eq-or-lt-of-le (le-of-suc-le-suc l)) (λ lt. greatest-ge f n none r lt e)
+  where
+    m : ℕ
+    m = greatest f n none
+
+    go : (b : Bool) → f n ≡ b → (r ≡ n) ⊎ (r < n) → (r < n → (r ≤ m) × (m < n) × (f m ≡ true)) → (r ≤ cond (f n) n m) × (cond (f n) n m < suc n) × (f (cond (f n) n m) ≡ true)
+    go true p w rest = let q : cond (f n) n m ≡ n = ap (λ (b : Bool). cond b n m) p in (omega arith, omega arith, ap f q ∙ p)
+    go false p (inl same) rest = absurd (false≢true (sym p ∙ ap f (sym same) ∙ e))
+    go false p (inr lt) rest =
+        let q : cond (f n) n m ≡ m = ap (λ (b : Bool). cond b n m) p in
+        let ih = rest lt in
+        (omega (arith, ih .0), omega (arith, ih .1), ap f q ∙ ih .2)
+
+-- it is `none` or an element below n
+pub greatest-in : (f : ℕ → Bool) (n none : ℕ) → (greatest f n none ≡ none) ⊎ ((greatest f n none < n) × (f (greatest f n none) ≡ true))
+unfolding greatest
+greatest-in f zero none = inl refl
+greatest-in f (suc n) none = go (f n) refl (greatest-in f n none)
+  where
+    go : (b : Bool) → f n ≡ b → (greatest f n none ≡ none) ⊎ ((greatest f n none < n) × (f (greatest f n none) ≡ true))
+        → (cond b n (greatest f n none) ≡ none) ⊎ ((cond b n (greatest f n none) < suc n) × (f (cond b n (greatest f n none)) ≡ true))
+    go true e ih = inr (omega arith, e)
+    go false e (inl q) = inl q
+    go false e (inr q) = inr (omega (arith, q .0), q .1)
+
+pub greatest-lt : (f : ℕ → Bool) (n none : ℕ) → none < n → greatest f n none < n
+greatest-lt f n none l = ⊎-elim (λ e. omega arith) (λ h. h .0) (greatest-in f n none)
+
+-- where a test takes nothing from n up, the greatest below any m from n up is the greatest below n
+pub greatest-cut : (f g : ℕ → Bool) (n m none : ℕ) → n ≤ m → ((s : ℕ) → s < n → f s ≡ g s) → ((s : ℕ) → n ≤ s → f s ≡ false) → greatest f m none ≡ greatest g n none
+unfolding greatest
+greatest-cut f g n zero none l h z = ap (λ (x : ℕ). greatest g x none) (sym (le-zero l))
+greatest-cut f g n (suc m) none l h z =
+    ⊎-elim
+    (λ (lt : n ≤ m). ap (λ (b : Bool). cond b m (greatest f m none)) (z m lt) ∙ greatest-cut f g n m none lt h z)
+    (λ (e : n ≡ suc m). subst (λ (x : ℕ). greatest f x none ≡ greatest g n none) e (greatest-cong f g n none h))
+    (le-suc-iff .0 l)
+
+-- The inserted 0: where 0 answers for an empty set it changes nothing
+
+pub greatest-zero : (f : ℕ → Bool) (n : ℕ) → greatest (zeroIn f) n 0 ≡ greatest f n 0
+unfolding greatest
+greatest-zero f zero = refl
+greatest-zero f (suc zero) = go (f 0)
+  where
+    go : (b : Bool) → _≡_ {A = ℕ} 0 (cond b 0 0)
+    go true = refl
+    go false = refl
+greatest-zero f (suc (suc n)) = ap (λ x. cond (f (suc n)) (suc n) x) (greatest-zero f (suc n))
+
+-- and with it there is always an element
+pub greatest-zero-any : (f : ℕ → Bool) (n none : ℕ) → greatest (zeroIn f) (suc n) none ≡ greatest (zeroIn f) (suc n) 0
+unfolding greatest
+greatest-zero-any f zero none = refl
+greatest-zero-any f (suc n) none = ap (λ x. cond (f (suc n)) (suc n) x) (greatest-zero-any f n none)
