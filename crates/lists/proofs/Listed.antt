@@ -11,7 +11,10 @@ use lib.Dec.{ltb}
 use lib.ListN.{length, getD, set, replicate, length-set, length-replicate, getD-replicate, List·getD-eq-default}
 use lib.Seq.{ext-getD, getD-set-same, getD-set-other}
 use borrow.Author.Tests.{lt-ltb, le-ltb, ltb-true, ltb-false}
+use Rattle.lists.specs.Entries.{_∈_, from}
 use Rattle.lists.specs.Listed.{listedFrom, listed, upto}
+use Rattle.lists.proofs.Tests.{in-map, out-map}
+use Rattle.lists.proofs.Joined.{in-from, out-from}
 
 module _ {A : Type 0} where
   -- its places
@@ -45,6 +48,23 @@ module _ {A : Type 0} where
       go : Dec (i < n) → P (getD (listed f n) i d)
       go (yes l) = rw (listed-at f n i d l) a
       go (no l) = rw (listed-past f n i d (omega arith)) b
+
+  -- what stands in it
+
+  as-map : (f : ℕ → A) (a n : ℕ) → map f (from a n) ≡ listedFrom f a n
+  unfolding listedFrom
+  as-map f a zero = refl
+  as-map f a (suc n) = ap (λ l. f a ∷ l) (as-map f (suc a) n)
+
+  pub in-listed : (f : ℕ → A) (n i : ℕ) → i < n → f i ∈ listed f n
+  unfolding listed
+  in-listed f n i l = rw (as-map f 0 n) at (in-map f (from 0 n) i (in-from 0 n i (omega arith) (omega arith)))
+
+  pub out-listed : (f : ℕ → A) (n : ℕ) (x : A) → x ∈ listed f n → (i : ℕ) × (i < n) × (x ≡ f i)
+  unfolding listed
+  out-listed f n x m =
+      let r = out-map f (from 0 n) x (rw (as-map f 0 n) m) in
+      (r .0, omega (arith, out-from 0 n (r .0) (r .1) .1), r .2)
 
   -- a list is known by its places
 

@@ -1,10 +1,10 @@
 -- Tests on the entries of a list: some, every; and maps that agree. Assumes nothing.
 use mathlib.Core.Path.{_≡_, refl, sym, ap, ap₂, _∙_}
-use mathlib.Core.Bool.{Bool, true, false, _&&_, _||_, true≢false, false≢true, or-assoc, or-false, and-assoc, and-true}
-use mathlib.Core.List.{List, [], _∷_, _++_, map, List·Memᴰ, List·Memᴰ·head, List·Memᴰ·tail, List·Memᴰ·not-nil, List·Memᴰ·cases-cons}
+use mathlib.Core.Bool.{Bool, true, false, _&&_, _||_, true≢false, false≢true, or-assoc, and-assoc}
+use mathlib.Core.List.{List, [], _∷_, _++_, map, List·Memᴰ·head, List·Memᴰ·tail, List·Memᴰ·not-nil, List·Memᴰ·cases-cons}
 use mathlib.Core.Logic.{_⊎_, inl, inr}
 use Rattle.lists.specs.Entries.{_∈_, some, every}
-use Rattle.lists.proofs.Bools.{and-both, or-neither}
+use Rattle.lists.proofs.Bools.{and-both, or-neither, not-both}
 
 module _ {A : Type 0} where
   -- `some`
@@ -51,6 +51,13 @@ module _ {A : Type 0} where
   every-at f xs e x (List·Memᴰ·head {x = y} {xs = ys} q) = ap f q ∙ and-both (f y) (every f ys) e .0
   every-at f xs e x (List·Memᴰ·tail {x = y} {xs = ys} m) = every-at f ys (and-both (f y) (every f ys) e .1) x m
 
+  pub every-no : (f : A → Bool) (xs : List A) (x : A) → x ∈ xs → f x ≡ false → every f xs ≡ false
+  every-no f xs x m e = go (every f xs) refl
+    where
+      go : (b : Bool) → every f xs ≡ b → b ≡ false
+      go true q = absurd (not-both (f x) (every-at f xs q x m) e)
+      go false q = refl
+
   pub every-fails : (f : A → Bool) (xs : List A) → every f xs ≡ false → (x : A) × (x ∈ xs) × (f x ≡ false)
   every-fails f [] e = absurd (true≢false e)
   every-fails f (x ∷ xs) e = go (f x) refl e (every-fails f xs)
@@ -66,6 +73,10 @@ module _ {A : Type 0} where
   -- maps
 
   module _ {B : Type 0} where
+    pub some-map : (test : B → Bool) (f : A → B) (xs : List A) → some test (map f xs) ≡ some (λ x. test (f x)) xs
+    some-map test f [] = refl
+    some-map test f (x ∷ xs) = ap (λ b. test (f x) || b) (some-map test f xs)
+
     -- two maps that agree on the entries
     pub map-on : (f g : A → B) (xs : List A) → ((x : A) → x ∈ xs → f x ≡ g x) → map f xs ≡ map g xs
     map-on f g [] h = refl

@@ -1,17 +1,17 @@
 -- t is in the PC-set of a net exactly when a chain of t gates ends there. Assumes nothing.
-use mathlib.Core.Path.{_≡_, refl, sym, ap, _∙_, subst}
+use mathlib.Core.Path.{_≡_, refl, ap}
 use mathlib.Core.Bool.{Bool, true, false, _&&_}
-use mathlib.Core.List.{List, []}
-use Prim.Native.Nat.{ℕ, zero, suc, _+_, _-_, _≤_, _<_}
+use mathlib.Core.List.{List}
+use Prim.Native.Nat.{ℕ, zero, suc, _-_, _<_}
 use native.Mathlib.Nat.{sub-zero}
 use native.Mathlib.Omega.{arith}
 use lib.Dec.{leb, leb·zero}
-use Rattle.lists.specs.Entries.{_∈_, some}
+use Rattle.lists.specs.Entries.{some}
 use Rattle.lists.proofs.Tests.{some-in, some-out}
 use Rattle.lists.proofs.Bools.{not-both}
 use Rattle.rule.specs.Net.{Net, netAt, pins, isSource}
 use Rattle.rule.specs.Chain.{Chain, start, link, pcSet}
-use Rattle.rule.proofs.Nets.{source-pins, pin-of-gate}
+use Rattle.rule.proofs.Nets.{source-pins}
 
 module _ (c : List Net) where
   pub set-of-chain : {n t : ℕ} → Chain c n t → pcSet c n t ≡ true

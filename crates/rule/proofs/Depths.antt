@@ -1,9 +1,8 @@
 -- Levels on a card without loops: each gate stands one above its highest pin, and its level is the largest element of its PC-set.
 -- Assumes nothing.
-use mathlib.Core.Path.{_≡_, refl, sym, ap, _∙_, subst}
-use mathlib.Core.Bool.{Bool, true, false, false≢true}
+use mathlib.Core.Path.{_≡_, refl, ap, _∙_}
+use mathlib.Core.Bool.{Bool, true, false}
 use mathlib.Core.List.{List, [], _∷_, map, List·Memᴰ·head}
-use mathlib.Core.Logic.{_⊎_, inl, inr}
 use Prim.Native.Nat.{ℕ, zero, suc, _+_, _≤_, _<_}
 use native.Mathlib.Omega.{arith}
 use native.Mathlib.Decide.{decLe, decLt}
@@ -16,11 +15,11 @@ use Rattle.word.specs.Times.{greatest}
 use Rattle.word.proofs.Sets.{greatest-is}
 use Rattle.rule.specs.Net.{Net, netAt, pins, isSource, Pinned}
 use Rattle.rule.specs.Chain.{pcSet}
-use Rattle.rule.specs.Level.{most, over, longest, delay, gatesBack, level, depth, Looped}
+use Rattle.rule.specs.Level.{most, over, delay, gatesBack, level, depth, Looped}
 use Rattle.rule.proofs.Timing.{short}
 use Rattle.rule.proofs.Levels.{most-in, most-at, longest-none, rises, longest-over, levels-unique}
 use Rattle.rule.proofs.Loops.{some-loop}
-use Rattle.rule.proofs.Nets.{pin-listed, source-pins, gate-listed, past-source}
+use Rattle.rule.proofs.Nets.{pin-listed, source-pins, past-source}
 use Rattle.rule.proofs.Chains.{set-reach}
 
 -- an input, a constant and what is past the card have level 0

@@ -3,10 +3,9 @@
 -- Assumes nothing.
 use mathlib.Core.Path.{_≡_, refl, sym, ap, _∙_, subst}
 use mathlib.Core.Bool.{Bool, true, false, true≢false}
-use mathlib.Core.List.{List, [], _∷_, map}
+use mathlib.Core.List.{List, map}
 use mathlib.Core.Logic.{_⊎_, inl, inr}
-use Prim.Native.Nat.{ℕ, zero, suc, _+_, _-_, _≤_, _<_}
-use native.Mathlib.Nat.{sub-zero}
+use Prim.Native.Nat.{ℕ, zero, suc, _-_, _≤_, _<_}
 use native.Mathlib.Omega.{arith}
 use lib.ListN.{length}
 use Rattle.lists.specs.Entries.{_∈_}
@@ -14,11 +13,11 @@ use Rattle.lists.proofs.Tests.{map-on, map-ext}
 use Rattle.gate.specs.Gate.{gate as gateFn}
 use Rattle.rule.specs.Net.{Net, input, constant, gate, openPin, openValue, atPin, netAt, pins, pinsOf, isSource, Named, Pinned}
 use Rattle.rule.specs.Rule.{first, value, Settled, AtRest, Rest}
-use Rattle.rule.specs.Level.{level, depth, Looped}
+use Rattle.rule.specs.Level.{level, Looped}
 use Rattle.rule.proofs.Timing.{Steady, arrives, ends-settled}
-use Rattle.rule.proofs.Nets.{at-open, at-pin-all, net-open, source-pins, gate-listed}
-use Rattle.rule.proofs.Values.{netFn, source-keeps, constant-is, input-is, open-reads, moves}
-use Rattle.rule.proofs.Depths.{level-up, level-depth, gate-level}
+use Rattle.rule.proofs.Nets.{at-open, at-pin-all, net-open, gate-listed}
+use Rattle.rule.proofs.Values.{netFn, constant-is, input-is, open-reads, moves}
+use Rattle.rule.proofs.Depths.{level-up, gate-level}
 
 module _ (c : List Net) (free : ¬ Looped c) (pinned : Pinned c) (before new : ℕ → Bool) where
   abbrev fn : ℕ → List Bool → Bool

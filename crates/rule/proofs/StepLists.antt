@@ -1,10 +1,10 @@
 -- The step list: it has every step once and nothing else, by level, net and time; it is itself a good order; it has as many entries as
 -- there are pairs of a gate and a time with a chain. Assumes nothing.
-use mathlib.Core.Path.{_≡_, refl, sym, ap, _∙_, subst}
-use mathlib.Core.Bool.{Bool, true, false}
+use mathlib.Core.Path.{_≡_, refl, sym, ap, _∙_}
+use mathlib.Core.Bool.{true}
 use mathlib.Core.List.{List, [], _∷_, List·Memᴰ·head, List·Memᴰ·eq-of-singleton}
-use mathlib.Core.Logic.{_⊎_, inl, inr}
-use Prim.Native.Nat.{ℕ, zero, suc, _+_, _≤_, _<_}
+use mathlib.Core.Logic.{inl, inr}
+use Prim.Native.Nat.{ℕ, _≤_, _<_}
 use native.Mathlib.Omega.{arith}
 use lib.ListN.{length}
 use Rattle.lists.specs.Entries.{_∈_, each, when, from, Sorted, Distinct, Number}
@@ -12,19 +12,14 @@ use Rattle.lists.proofs.Joined.{in-from, out-from, in-each, out-each, in-when, 
 use Rattle.lists.proofs.Order.{sorted-from, sorted-each, sorted-when, sorted-one, sorted-weaken, distinct-of-sorted}
 use Rattle.lists.proofs.Number.{number-unique}
 use Rattle.lists.proofs.Tests.{out-map}
-use Rattle.rule.specs.Net.{Net, netAt, pins, isSource, Pinned}
-use Rattle.rule.specs.Chain.{Chain, pcSet}
+use Rattle.rule.specs.Net.{Net, pins, Pinned}
+use Rattle.rule.specs.Chain.{pcSet}
 use Rattle.rule.specs.Level.{level, depth, Looped}
-use Rattle.rule.specs.Steps.{Step, IsStep, readAt, stepReads, GoodOrder, EarlierGate, Earlier, gateOrder, netSteps, stepList}
+use Rattle.rule.specs.Steps.{Step, IsStep, Joined, readAt, stepReads, GoodOrder, EarlierGate, Earlier, gateOrder, netSteps, stepList}
 use Rattle.rule.proofs.Chains.{set-of-chain, chain-of-set, set-of-gate}
 use Rattle.rule.proofs.Depths.{level-depth, level-up, element-level}
-use Rattle.rule.proofs.GateOrders.{out-order, in-order, order-sorted}
+use Rattle.rule.proofs.GateOrders.{in-order, order-sorted}
 use Rattle.rule.proofs.StepRuns.{step-time}
-
--- a gate and a time that some chain of that many gates joins to an input or constant
-pub record Joined (c : List Net) (k : Step) : Type 0 where
-  pub gated : isSource (netAt c (k .net)) ≡ false
-  pub chain : Chain c (k .net) (k .time)
 
 module _ (c : List Net) where
   out-net : (d n : ℕ) (k : Step) → k ∈ netSteps c d n → (k .net ≡ n) × (pcSet c (k .net) (k .time) ≡ true) × (0 < k .time) × (k .time ≤ d)

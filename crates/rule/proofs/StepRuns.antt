@@ -1,23 +1,23 @@
 -- The steps of a card, done in any good order: each step, when it is reached, gives the rule's value, and the whole run leaves the
 -- rule's history. From a settled start. Assumes nothing.
-use mathlib.Core.Path.{_≡_, refl, sym, ap, ap₂, _∙_, subst}
-use mathlib.Core.Bool.{Bool, true, false, _&&_, true≢false}
-use mathlib.Core.List.{List, [], _∷_, _++_, map, map-map}
+use mathlib.Core.Path.{_≡_, refl, sym, ap, _∙_}
+use mathlib.Core.Bool.{Bool, true, false, true≢false}
+use mathlib.Core.List.{List, _∷_, _++_, map, map-map}
 use mathlib.Core.Logic.{_⊎_, inl, inr, ⊎-elim}
-use Prim.Native.Nat.{ℕ, zero, suc, _+_, _≤_, _<_}
+use Prim.Native.Nat.{ℕ, zero, suc, _+_, _<_}
 use native.Mathlib.Omega.{arith}
 use native.Mathlib.Decide.{ℕ-discrete}
 use lib.Dec.{eqb}
-use lib.ListN.{length, take}
+use lib.ListN.{take}
 use borrow.Author.Tests.{eq-eqb, eqb-true}
-use Rattle.lists.specs.Entries.{_∈_, Sorted}
+use Rattle.lists.specs.Entries.{_∈_}
 use Rattle.lists.proofs.Bools.{and-both, and-make}
 use Rattle.lists.proofs.Tests.{map-ext, out-map}
 use Rattle.word.specs.Times.{greatest, zeroIn}
 use Rattle.word.proofs.Sets.{greatest-in, greatest-lt}
 use Rattle.gate.specs.Gate.{gate as gateFn}
-use Rattle.rule.specs.Net.{Net, input, constant, gate, netAt, pins, pinsOf, isSource}
-use Rattle.rule.specs.Rule.{next, value, AtRest}
+use Rattle.rule.specs.Net.{Net, input, constant, gate, netAt, pins, isSource}
+use Rattle.rule.specs.Rule.{value, AtRest}
 use Rattle.rule.specs.Chain.{pcSet}
 use Rattle.rule.specs.Run.{made, run, ready}
 use Rattle.rule.specs.Steps.{Step, sameStep, IsStep, readAt, stepReads, stepFn, GoodOrder}

@@ -1,12 +1,9 @@
 -- The unit-delay rule from a settled start, as timed nets: when a net can change, and what a step reads. Assumes nothing.
 use mathlib.Core.Path.{_≡_, refl, sym, ap, _∙_, subst}
 use mathlib.Core.Bool.{Bool, true, false, true≢false, false≢true}
-use mathlib.Core.List.{List, [], _∷_, map}
-use Prim.Native.Nat.{ℕ, zero, suc, _+_, _-_, _≤_, _<_}
+use mathlib.Core.List.{List, map}
+use Prim.Native.Nat.{ℕ, zero, suc, _-_}
 use native.Mathlib.Nat.{sub-zero}
-use native.Mathlib.Omega.{arith}
-use lib.ListN.{length}
-use Rattle.lists.proofs.Tests.{map-ext}
 use Rattle.lists.proofs.Bools.{not-both}
 use Rattle.word.specs.Word.{differ, movedUp}
 use Rattle.word.specs.Times.{greatest, zeroIn}
@@ -17,7 +14,7 @@ use Rattle.rule.specs.Rule.{first, next, value, Settled, AtRest}
 use Rattle.rule.specs.Chain.{Chain, pcSet}
 use Rattle.rule.specs.Flag.{changedAt}
 use Rattle.rule.proofs.Timing.{Steady, Timed, steady, held}
-use Rattle.rule.proofs.Nets.{at-net, at-open, net-open, at-pin-all, gate-listed, gate-not-open}
+use Rattle.rule.proofs.Nets.{at-net, net-open, at-pin-all, gate-listed, gate-not-open}
 use Rattle.rule.proofs.Chains.{chain-of-set, set-reach}
 
 -- a net's function of its pins' values: an input and a constant have no pins, and keep x

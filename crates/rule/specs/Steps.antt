@@ -3,14 +3,14 @@ use mathlib.Core.Path.{_≡_}
 use mathlib.Core.Bool.{Bool, true, false, _&&_}
 use mathlib.Core.List.{List, [], _∷_, map}
 use mathlib.Core.Logic.{_⊎_}
-use Prim.Native.Nat.{ℕ, _+_, _<_}
+use Prim.Native.Nat.{ℕ, _<_}
 use lib.Dec.{eqb}
 use lib.ListN.{length}
 use Rattle.lists.specs.Entries.{_∈_, each, when, from, Sorted, Distinct}
 use Rattle.word.specs.Times.{greatest, zeroIn}
 use Rattle.gate.specs.Gate.{gate as gateFn}
 use Rattle.rule.specs.Net.{Net, input, constant, gate, netAt, pins, isSource}
-use Rattle.rule.specs.Chain.{pcSet}
+use Rattle.rule.specs.Chain.{Chain, pcSet}
 use Rattle.rule.specs.Level.{level, depth}
 
 -- a net and a time: a step, and the variable that it writes. The variable of the inserted 0 has the time 0
@@ -25,6 +25,11 @@ sameStep j k = eqb (j .net) (k .net) && eqb (j .time) (k .time)
 pub record IsStep (c : List Net) (k : Step) : Type 0 where
   pub gated : isSource (netAt c (k .net)) ≡ false
   pub element : pcSet c (k .net) (k .time) ≡ true
+
+-- "gate-and-time pairs that have a chain": a gate, and a time t such that some chain of t gates joins it to an input or constant
+pub record Joined (c : List Net) (k : Step) : Type 0 where
+  pub gated : isSource (netAt c (k .net)) ≡ false
+  pub chain : Chain c (k .net) (k .time)
 
 -- "It reads, for each pin, the variable of the pin's largest element strictly below the step's time." Every set has the inserted 0
 -- here, and here alone.

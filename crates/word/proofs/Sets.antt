@@ -4,7 +4,9 @@ use mathlib.Core.Bool.{Bool, true, false, cond, false≢true}
 use mathlib.Core.Logic.{_⊎_, inl, inr, ⊎-elim}
 use Prim.Native.Nat.{ℕ, zero, suc, _+_, _≤_, _<_}
 use native.Mathlib.Nat.{le-of-eq, le-suc-iff, eq-or-lt-of-le, lt-suc-self, le-step, not-suc-le-zero, le-of-suc-le-suc}
+use native.Mathlib.Numerals.{add-one}
 use native.Mathlib.Omega.{arith}
+use native.Mathlib.Decide.{decLt}
 use lib.Arith.{le-zero}
 use Rattle.word.specs.Word.{val}
 use Rattle.word.specs.Times.{count, least, greatest, zeroIn}
@@ -21,6 +23,31 @@ pub count-le : (f : ℕ → Bool) (n : ℕ) → count f n ≤ n
 unfolding count
 count-le f zero = omega arith
 count-le f (suc n) = let h = count-le f n in omega (arith, val-lt (f n))
+
+-- one number more
+pub count-more : (f : ℕ → Bool) (n a b : ℕ) → a ≡ count f n → b ≡ val (f n) → a + b ≡ count f (n + 1)
+unfolding count
+count-more f n a b e h = rw (add-one n) (omega arith)
+
+-- where none is counted none is in the set, and else some is
+pub count-none : (f : ℕ → Bool) (n : ℕ) → count f n ≡ 0 → (i : ℕ) → i < n → f i ≡ false
+unfolding count
+count-none f zero e i l = absurd (omega arith)
+count-none f (suc n) e i l = go (decLt i n) (f n) refl (count-none f n)
+  where
+    go : Dec (i < n) → (b : Bool) → f n ≡ b → (count f n ≡ 0 → (j : ℕ) → j < n → f j ≡ false) → f i ≡ false
+    go d true q ih = absurd (omega (arith, ap val q))
+    go (yes h) false q ih = ih (omega arith) i h
+    go (no h) false q ih = let x : i ≡ n = omega arith in ap f x ∙ q
+
+pub count-some : (f : ℕ → Bool) (n : ℕ) → ¬ (count f n ≡ 0) → (i : ℕ) × (i < n) × (f i ≡ true)
+unfolding count
+count-some f zero h = absurd (h refl)
+count-some f (suc n) h = go (f n) refl (count-some f n)
+  where
+    go : (b : Bool) → f n ≡ b → (¬ (count f n ≡ 0) → (i : ℕ) × (i < n) × (f i ≡ true)) → (i : ℕ) × (i < suc n) × (f i ≡ true)
+    go true q ih = (n, omega arith, q)
+    go false q ih = let r = ih (λ e. h (omega (arith, ap val q))) in (r .0, omega (arith, r .1), r .2)
 
 -- `least`
 

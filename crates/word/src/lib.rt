@@ -1,6 +1,5 @@
 // Words of 64 bits: bit t of a word is what holds at time t. A set of times is such a word.
 ghost use mathlib.Core.Path.{_≡_};
-ghost use mathlib.Core.Bool.{Bool};
 ghost use Prim.Native.Nat.{ℕ, _<_};
 ghost use Rattle.word.specs.Word.{bit, movedUp};
 

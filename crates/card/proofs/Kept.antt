@@ -1,0 +1,163 @@
+-- What a session that holds a card keeps of it. Assumes nothing.
+use mathlib.Core.Path.{_≡_, refl, sym, ap, ap₂, _∙_, subst}
+use mathlib.Core.Bool.{true, false, false≢true}
+use mathlib.Core.List.{List}
+use mathlib.Core.Logic.{_⊎_}
+use Prim.Native.Nat.{ℕ, _+_, _≤_, _<_}
+use native.Mathlib.Omega.{arith}
+use native.Mathlib.Decide.{decLe}
+use lib.ListN.{length, getD}
+use borrow.Author.Tests.{lt-ltb, le-ltb}
+use Rattle.lists.specs.Entries.{_∈_}
+use Rattle.lists.specs.Listed.{listed}
+use Rattle.lists.proofs.Listed.{listed-at}
+use Rattle.word.specs.Word.{wordOf}
+use Rattle.rule.specs.Net.{Net as CardNet, pins, openPin}
+use Rattle.rule.specs.Chain.{pcSet}
+use Rattle.rule.specs.Level.{level, depth}
+use Rattle.rule.specs.Steps.{gateOrder, stepList}
+use Rattle.rule.proofs.Depths.{level-depth}
+use Rattle.rule.specs.declared.Refusal.the-variants.{NotReady, NoSuchNet}
+use Rattle.rule.specs.declared.NetAnswer.the-variants.{Net, Refused}
+use Rattle.wiring.specs.Layout.{kindsOf, typesOf, countsOf, placesOf, pinsAt}
+use Rattle.wiring.specs.Wires.{Wires, Fitting, backs, padded}
+use Rattle.wiring.specs.Wired.{setWords}
+use Rattle.wiring.proofs.Layouts.{pins-laid, levels-laid, wires-laid, card-laid}
+use Rattle.records.proofs.Fitted.{Fitted, fitted}
+use Rattle.card.specs.declared.Session.{Session}
+use Rattle.card.specs.Session.{none, inputsOf, sessionOf, cardOf, resting}
+use Rattle.card.specs.Allowed.{Legible, Accepted}
+use Rattle.card.specs.Held.{HasCard, Carded}
+use Rattle.card.specs.Asked.{netAsked}
+use Rattle.card.proofs.Tests.{deep-tells, long-tells}
+
+-- a legible card fits the arrays, its gates have pins and known types
+pub legible-fits : (c : List CardNet) → Legible c → Fitted c
+legible-fits c l = fitted c (l .legal) (l .few)
+
+-- a card that load takes is held by the session that it leaves
+pub session-card : (c : List CardNet) → Accepted c → cardOf (sessionOf c) ≡ c
+unfolding cardOf sessionOf
+session-card c a = card-laid c (legible-fits c (a .legible) .fits)
+
+pub session-holds : (c : List CardNet) → Accepted c → HasCard (sessionOf c)
+unfolding sessionOf
+session-holds c a =
+    let e = session-card c a in
+    record { accepted = rw e a; laid = rw e refl }
+
+module _ (s : Session) (h : HasCard s) where
+  abbrev c : List CardNet
+  c = cardOf s
+
+  abbrev kept : Session
+  kept = resting (sessionOf c) (s .rested) (s .before) (s .words)
+
+  pub nets-are : s .nets ≡ length c
+  unfolding sessionOf
+  nets-are = ap (λ x. x .nets) (h .laid)
+
+  pub inputs-are : s .inputs ≡ inputsOf c
+  unfolding sessionOf
+  inputs-are = ap (λ x. x .inputs) (h .laid)
+
+  pub gates-are : s .gates ≡ length (gateOrder c)
+  unfolding sessionOf
+  gates-are = ap (λ x. x .gates) (h .laid)
+
+  pub kinds-are : s .kinds ≡ kindsOf c
+  unfolding sessionOf
+  kinds-are = ap (λ x. x .kinds) (h .laid)
+
+  pub types-are : s .types ≡ typesOf c
+  unfolding sessionOf
+  types-are = ap (λ x. x .types) (h .laid)
+
+  pub counts-are : s .counts ≡ countsOf c
+  unfolding sessionOf
+  counts-are = ap (λ x. x .counts) (h .laid)
+
+  pub places-are : s .places ≡ placesOf c
+  unfolding sessionOf
+  places-are = ap (λ x. x .places) (h .laid)
+
+  pub order-is : s .order ≡ padded (gateOrder c)
+  unfolding sessionOf
+  order-is = ap (λ x. x .order) (h .laid)
+
+  pub sets-are : s .sets ≡ setWords c
+  unfolding sessionOf
+  sets-are = ap (λ x. x .sets) (h .laid)
+
+  pub card-fits : Fitted c
+  card-fits = legible-fits c (h .accepted .legible)
+
+  -- so the loops over its arrays may run,
+  pub card-wires : Wires (s .counts) (s .places) (s .nets)
+  card-wires =
+      subst (λ x. Wires x (s .places) (s .nets)) (sym counts-are)
+      (subst (λ y. Wires (countsOf c) y (s .nets)) (sym places-are) (subst (Wires (countsOf c) (placesOf c)) (sym nets-are) (wires-laid c (card-fits .fits))))
+
+  pub card-pins : pinsAt (s .counts) (s .places) ≡ pins c
+  card-pins = ap₂ pinsAt counts-are places-are ∙ pins-laid c (card-fits .fits)
+
+  pub card-fitting : Fitting (s .counts) (s .places) (s .nets)
+  card-fitting g p m = subst (λ k. (p < k) ⊎ (p ≡ openPin)) (sym nets-are) (h .accepted .named g p (subst (λ f. p ∈ f g) card-pins m))
+
+  -- its depth and the number of its steps are within the limits
+  pub card-depth : depth c ≤ 63
+  card-depth = go (decLe (depth c) 63)
+    where
+      go : Dec (depth c ≤ 63) → depth c ≤ 63
+      go (yes l) = l
+      go (no l) = absurd (h .accepted .shallow (deep-tells c .yes-is (lt-ltb 63 (depth c) (omega arith))))
+
+  pub card-level : (n : ℕ) → level c n ≤ 63
+  card-level n = omega (arith, level-depth c n, card-depth)
+
+  pub card-steps : length (stepList c) ≤ 4096
+  card-steps = go (decLe (length (stepList c)) 4096)
+    where
+      go : Dec (length (stepList c) ≤ 4096) → length (stepList c) ≤ 4096
+      go (yes l) = l
+      go (no l) = absurd (h .accepted .short (long-tells c (h .accepted .free) (card-fits .pinned) .yes-is (lt-ltb 4096 (length (stepList c)) (omega arith))))
+
+  -- the levels worked out from its wiring are the card's, and the words are its PC-sets
+  pub card-levels : (n : ℕ) → n < s .nets → getD (backs (s .counts) (s .places) (s .nets + 1)) n 0 ≡ level c n
+  card-levels n l =
+      let few = card-fits .fits .few in
+      let e : backs (s .counts) (s .places) (s .nets + 1) ≡ listed (level c) 256 =
+      ap₂ (λ x y. backs x y (s .nets + 1)) counts-are places-are ∙ ap (λ k. backs (countsOf c) (placesOf c) (k + 1)) nets-are ∙ levels-laid c (card-fits .fits) in
+      ap (λ xs. getD xs n 0) e ∙ listed-at (level c) 256 n 0 (omega (arith, nets-are))
+
+  pub card-sets : (n : ℕ) → n < 256 → getD (s .sets) n 0 ≡ wordOf 64 (pcSet c n)
+  unfolding setWords
+  card-sets n l = ap (λ xs. getD xs n 0) sets-are ∙ listed-at (λ m. wordOf 64 (pcSet c m)) 256 n 0 l
+
+-- The question about a net: 12, 13, or its level and word
+
+pub asked-none : (s : Session) (n : ℕ) → s .loaded ≡ false → Refused NotReady ≡ netAsked s n
+unfolding netAsked
+asked-none s n e = rw e
+
+pub asked-past : (s : Session) (n : ℕ) → s .loaded ≡ true → s .nets ≤ n → Refused NoSuchNet ≡ netAsked s n
+unfolding netAsked
+asked-past s n e l = rw (e, le-ltb n (s .nets) l)
+
+pub asked-here : (s : Session) → HasCard s → (n l w : ℕ) → s .loaded ≡ true → n < s .nets → l ≡ getD (backs (s .counts) (s .places) (s .nets + 1)) n 0 → w ≡ getD (s .sets) n 0
+    → Net l w ≡ netAsked s n
+unfolding netAsked
+asked-here s h n l w e b el ew =
+    let few = card-fits s h .fits .few in
+    let x : l ≡ level (cardOf s) n = el ∙ card-levels s h n b in
+    let y : w ≡ wordOf 64 (pcSet (cardOf s) n) = ew ∙ card-sets s h n (omega (arith, nets-are s h)) in
+    ap₂ Net x y ∙ rw (e, lt-ltb n (s .nets) b)
+
+-- The empty session holds no card, and load keeps what sessions keep
+
+pub none-carded : Carded none
+unfolding none
+none-carded e = absurd (false≢true e)
+
+pub taken-carded : (c : List CardNet) → Accepted c → Carded (sessionOf c)
+taken-carded c a e = session-holds c a

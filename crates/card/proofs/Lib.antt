@@ -1,0 +1,4 @@
+pub mod Tests
+pub mod Kept
+pub mod Reading
+pub mod Verdicts

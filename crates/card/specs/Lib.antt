@@ -1,0 +1,5 @@
+pub mod Session
+pub mod Load
+pub mod Allowed
+pub mod Held
+pub mod Asked

@@ -1,0 +1,173 @@
+// The session, and load: from any bytes at all to a card or a number.
+ghost use mathlib.Core.Path.{_≡_};
+ghost use mathlib.Core.Bool.{true};
+ghost use mathlib.Core.List.{List};
+ghost use Prim.Native.Nat.{_<_, _≤_};
+ghost use lib.Dec.{eqb};
+ghost use lib.ListN.{length, getD};
+ghost use Rattle.word.specs.Word.{val};
+ghost use Rattle.word.specs.Times.{count};
+ghost use Rattle.rule.specs.Net.{Net, Pinned};
+ghost use Rattle.wiring.specs.Layout.{Fits, kindsOf, typesOf, countsOf, placesOf};
+ghost use Rattle.card.specs.Session.{none};
+ghost use Rattle.wiring.specs.Wires.{Wires};
+ghost use Rattle.card.specs.Load.{refusal, loadOf, judged};
+ghost use Rattle.card.specs.Held.{Carded};
+ghost use Rattle.card.specs.Asked.{netAsked};
+use records::Outcome;
+use rule::Answer;
+use rule::NetAnswer;
+use rule::Refusal;
+use wiring::Verdict;
+
+// A card, laid out in arrays, its rest and the histories of the last vector. The operations take it by value and hand it back.
+pub struct Session {
+    // A card is loaded; it is rested.
+    pub loaded: bool,
+    pub rested: bool,
+    // How many nets, inputs and gates it has.
+    pub nets: usize,
+    pub inputs: usize,
+    pub gates: usize,
+    // A net's kind, its type or constant, its number of pins, and 8 places for what they name.
+    pub kinds: [u8; 256],
+    pub types: [u8; 256],
+    pub counts: [u8; 256],
+    pub places: [u16; 2048],
+    // The gates by level, then net.
+    pub order: [u16; 256],
+    // The PC-sets.
+    pub sets: [u64; 256],
+    // The values ahead of time 0, and the histories: bit t of a net's word is its value at time t.
+    pub before: [bool; 256],
+    pub words: [u64; 256],
+}
+
+// The empty session.
+pub fn empty() -> Session
+    ensures { λ r. ⌜ r ≡ none ⌝ }
+{
+    Session {
+        loaded: false,
+        rested: false,
+        nets: 0,
+        inputs: 0,
+        gates: 0,
+        kinds: [0; 256],
+        types: [0; 256],
+        counts: [0; 256],
+        places: [0; 2048],
+        order: [0; 256],
+        sets: [0; 256],
+        before: [false; 256],
+        words: [0; 256],
+    }
+}
+
+pub struct Loaded {
+    pub answer: Answer,
+    pub session: Session,
+}
+
+fn refused(old: Session, why: Refusal) -> Loaded
+    ensures { λ r. ⌜ r ≡ refusal old why ⌝ }
+{
+    Loaded {
+        answer: Answer::Refused(why),
+        session: old,
+    }
+}
+
+fn one_if_input(kind: u8) -> usize
+    ensures { λ r. ⌜ r ≡ val (eqb kind 1) ⌝ }
+{
+    if kind == 1 { 1 } else { 0 }
+}
+
+// How many of the first n nets are inputs.
+pub fn inputs_below(kinds: &[u8; 256], n: usize) -> usize
+    requires { ⌜ n ≤ 256 ⌝ }
+    ensures { λ r. ⌜ r ≡ count (λ g. eqb (getD (now (kinds .entry)) g 0) 1) n ⌝ }
+{
+    let mut inputs: usize = 0;
+    let mut g: usize = 0;
+    while g < n {
+        inputs += one_if_input(kinds[g]);
+        g += 1;
+    }
+    inputs
+}
+
+// A card that was read, laid out in arrays: 9, then what the wiring's judgement gives, 4, 5, 6, 7; else it replaces the old one.
+fn judge<'a>(
+    old: Session,
+    n: usize,
+    kinds: &'a [u8; 256],
+    types: &'a [u8; 256],
+    counts: &'a [u8; 256],
+    places: &'a [u16; 2048],
+) -> Loaded
+    requires { ⌜ Wires (now counts) (now places) n ⌝ }
+    ensures { λ r. ⌜ ((c : List Net) → Fits c → Pinned c → length c ≡ n → now (kinds .entry) ≡ kindsOf c → now (types .entry) ≡ typesOf c → now (counts .entry) ≡ countsOf c → now (places .entry) ≡ placesOf c → r ≡ judged old c) ⌝ }
+{
+    let inputs = inputs_below(kinds, n);
+    if inputs == 0 {
+        return refused(old, Refusal::NoInput);
+    }
+    let w = wiring::wire(counts, places, n);
+    let verdict = w.verdict;
+    match verdict {
+        Verdict::Refused(why) => refused(old, why),
+        Verdict::Passed => {
+            let order = w.order;
+            let sets = w.sets;
+            Loaded {
+                answer: Answer::Done(n),
+                session: Session {
+                    loaded: true,
+                    rested: false,
+                    nets: n,
+                    inputs,
+                    gates: w.gates,
+                    kinds: *kinds,
+                    types: *types,
+                    counts: *counts,
+                    places: *places,
+                    order,
+                    sets,
+                    before: [false; 256],
+                    words: [0; 256],
+                },
+            }
+        }
+    }
+}
+
+// A card from any bytes: it replaces the old one, or is refused and leaves it.
+pub fn load(old: Session, s: &[u8]) -> Loaded
+    ensures { λ r. ⌜ r ≡ loadOf old (now (s .entry)) ⌝ }
+{
+    let p = records::parse(s);
+    let outcome = p.outcome;
+    match outcome {
+        Outcome::Refused(why) => refused(old, why),
+        Outcome::Read(n) => judge(old, n, &p.kinds, &p.types, &p.counts, &p.places),
+    }
+}
+
+// A net's level, worked out from the wiring at each asking, and its PC-set.
+pub fn ask_net(s: Session, n: u64) -> NetAnswer
+    requires { ⌜ Carded s ⌝ }
+    ensures { λ r. ⌜ r ≡ netAsked s n ⌝ }
+{
+    if !s.loaded {
+        return NetAnswer::Refused(Refusal::NotReady);
+    }
+    let nets = s.nets;
+    if nets as u64 <= n {
+        return NetAnswer::Refused(Refusal::NoSuchNet);
+    }
+    let at = n as usize;
+    let levels = wiring::gates_back(&s.counts, &s.places, nets);
+    NetAnswer::Net(levels[at], s.sets[at])
+}

@@ -1,0 +1,12 @@
+pub mod Heads
+pub mod Found
+pub mod Meant
+pub mod Scans
+pub mod Pushed
+pub mod Walk
+pub mod Spelled
+pub mod Again
+pub mod Faults
+pub mod Cards
+pub mod Fitted
+pub mod Example

@@ -1,0 +1,48 @@
+-- A card as it is written: its nets' records, one after another, and the end record. Assumes nothing.
+use mathlib.Core.Path.{_≡_}
+use mathlib.Core.Bool.{true}
+use mathlib.Core.List.{List, [], _∷_, _++_}
+use Prim.Native.Nat.{ℕ, _/_, _%_, _≤_, _<_}
+use lib.ListN.{length, getD}
+use Rattle.lists.specs.Entries.{_∈_, each}
+use Rattle.word.specs.Word.{val}
+use Rattle.rule.specs.Net.{Net, input, constant, gate}
+use Rattle.wiring.specs.Layout.{kindOf}
+use Rattle.records.specs.Bytes.{typeFits}
+
+-- "All numbers are little-endian."
+abbrev pub two : ℕ → List ℕ
+two x = x % 256 ∷ x / 256 ∷ []
+
+-- "Each record is a two-byte body length, a two-byte kind, then the body."
+abbrev pub recordOf : ℕ → List ℕ → List ℕ
+recordOf kind body = two (length body) ++ (two kind ++ body)
+
+-- "1: empty; 2: one byte, 0 or 1; 3: gate type, then 2 bytes a pin"
+abbrev pub bodyOf : Net → List ℕ
+bodyOf input = []
+bodyOf (constant k) = val k ∷ []
+bodyOf (gate ty ps) = ty ∷ each two ps
+
+unfoldable pub netBytes : Net → List ℕ
+netBytes w = recordOf (kindOf w) (bodyOf w)
+
+-- "4: empty: end of card"
+abbrev pub endBytes : List ℕ
+endBytes = recordOf 4 []
+
+unfoldable pub cardBytes : List Net → List ℕ
+cardBytes c = each netBytes c ++ endBytes
+
+-- what a record can say: a gate of a known type, with the pin count that the type asks, at most 8, and pins of two bytes
+abbrev pub Legal : Net → Type 0
+Legal input = Unit {0}
+Legal (constant k) = Unit {0}
+Legal (gate ty ps) = (typeFits ty (length ps) ≡ true) × (length ps ≤ 8) × ((p : ℕ) → p ∈ ps → p < 65536)
+
+abbrev pub AllLegal : List Net → Type 0
+AllLegal c = (w : Net) → w ∈ c → Legal w
+
+-- bytes are below 256
+abbrev pub Bytes : List ℕ → Type 0
+Bytes s = (i : ℕ) → getD s i 0 < 256

@@ -1,0 +1,73 @@
+-- `wiring::wire` meets its contract: each test that the code makes is a test of the judgement over the arrays, which is the card's for
+-- every card that is laid out there. Assumes nothing.
+use mathlib.Core.Path.{_≡_, sym, _∙_}
+use mathlib.Core.Bool.{true}
+use native.Mathlib.Omega.{arith}
+use borrow.Author.Needs.{needs}
+use borrow.Author.Tests.{not-true, not-false}
+use Rattle.wiring.specs.Wires.{Fitting, allFit}
+use Rattle.wiring.proofs.Pins.{fitting}
+use Rattle.wiring.proofs.Judged.{Levelled, wired-unfit, wired-looped, wired-deep, wired-sets, judged}
+use Rattle.wiring.proofs.wire.Statement.{statement}
+use Rattle.wiring.proofs.wire.Tie as tie
+
+-- past the first test every pin fits
+fit : (c : tie.Else1) → allFit (c .before .before .args .counts .now) (c .before .before .args .places .now) (c .before .before .args .n) ≡ true
+fit c = sym (c .before .all-fit .ensures) ∙ not-false _ (c .if1 .left)
+
+fits : (c : tie.Else1) → Fitting (c .before .before .args .counts .now) (c .before .before .args .places .now) (c .before .before .args .n)
+fits c = let s = c .before .before in fitting (s .args .counts .now) (s .args .places .now) (s .args .n) (s .pre) (fit c)
+
+levelled : (c : tie.After-highest-of) → let s = c .before .before .before .before .before in Levelled (s .args .counts .now) (s .args .places .now) (s .args .n) (c .before .before .gates-back .result) (c .highest-of .result)
+levelled c = record { fit = fit (c .before .before .before); counted = c .before .before .gates-back .ensures; top = c .highest-of .ensures }
+
+all-fit-requires : tie.Need-all-fit-requires
+all-fit-requires c κs = search needs
+
+refused-requires : tie.Need-refused-requires
+refused-requires c κs = search needs
+
+returns : tie.Need-returns
+returns c =
+    let s = c .before .before .before in
+    judged (c .refused .ensures ∙ wired-unfit (s .args .counts .now) (s .args .places .now) (s .args .n) (sym (c .before .before .all-fit .ensures) ∙ not-true _ (c .before .if1 .taken)))
+
+gates-back-requires : tie.Need-gates-back-requires
+gates-back-requires c κs = (c .before .before .pre, fits c)
+
+highest-of-requires : tie.Need-highest-of-requires
+highest-of-requires c κs = search needs
+
+refused-requires-2 : tie.Need-refused-requires-2
+refused-requires-2 c κs = search needs
+
+returns-2 : tie.Need-returns-2
+returns-2 c = judged (c .refused2 .ensures ∙ wired-looped (levelled (c .before .before)) (omega arith))
+
+refused-requires-3 : tie.Need-refused-requires-3
+refused-requires-3 c κs = search needs
+
+returns-3 : tie.Need-returns-3
+returns-3 c = judged (c .refused3 .ensures ∙ wired-deep (levelled (c .before .before .before)) (omega arith) (omega arith))
+
+with-sets-requires : tie.Need-with-sets-requires
+with-sets-requires c κs = let e = c .before .before .before .before .before .before in (e .before .before .pre, (fits e, omega arith))
+
+returns-4 : tie.Need-returns-4
+returns-4 c = judged (c .with-sets .ensures ∙ wired-sets (levelled (c .before .before .before .before)) (omega arith) (omega arith))
+
+pub wire-spec : {M : Type 1} → statement M
+wire-spec =
+    tie.close
+    (tie.spec
+    all-fit-requires
+    refused-requires
+    returns
+    gates-back-requires
+    highest-of-requires
+    refused-requires-2
+    returns-2
+    refused-requires-3
+    returns-3
+    with-sets-requires
+    returns-4)

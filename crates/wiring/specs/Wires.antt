@@ -1,0 +1,66 @@
+-- What the loops over the arrays work out: pins that fit, gates counted backwards, the order of the gates, their PC-sets, the number of
+-- steps. Assumes nothing.
+use mathlib.Core.Path.{_≡_}
+use mathlib.Core.Bool.{Bool, false, _||_}
+use mathlib.Core.List.{List, [], _∷_, map}
+use mathlib.Core.Logic.{_⊎_}
+use Prim.Native.Nat.{ℕ, _≤_, _<_}
+use lib.Dec.{ltb, eqb}
+use lib.ListN.{getD}
+use Rattle.lists.specs.Entries.{_∈_, some, every, each, when, from, sum}
+use Rattle.lists.specs.Listed.{listed}
+use Rattle.word.specs.Word.{bit, wordOf, movedUp}
+use Rattle.word.specs.Times.{count}
+use Rattle.rule.specs.Net.{openPin}
+use Rattle.rule.specs.Level.{most, longest}
+use Rattle.rule.specs.Run.{run}
+use Rattle.wiring.specs.Layout.{pinsAt}
+
+-- what the loops need of the arrays
+pub record Wires (counts places : List ℕ) (n : ℕ) : Type 0 where
+  pub few : n ≤ 256
+  pub narrow : (g : ℕ) → getD counts g 0 ≤ 8
+  pub past : (g : ℕ) → n ≤ g → getD counts g 0 ≡ 0
+
+-- and, once the pins are known to fit
+abbrev pub Fitting : List ℕ → List ℕ → ℕ → Type 0
+Fitting counts places n = (g p : ℕ) → p ∈ pinsAt counts places g → (p < n) ⊎ (p ≡ openPin)
+
+-- a pin names one of n nets, or is open
+abbrev pub pinFits : ℕ → ℕ → Bool
+pinFits n p = ltb p n || eqb p openPin
+
+abbrev pub allFit : List ℕ → List ℕ → ℕ → Bool
+allFit counts places n = every (λ g. every (pinFits n) (pinsAt counts places g)) (from 0 n)
+
+-- gates counted backwards, at most k
+abbrev pub backs : List ℕ → List ℕ → ℕ → List ℕ
+backs counts places k = listed (longest (λ g. 1) (pinsAt counts places) k) 256
+
+-- the highest of the first n
+abbrev pub highest : List ℕ → ℕ → ℕ
+highest levels n = most (map (λ g. getD levels g 0) (from 0 n))
+
+-- the nets below n that have level l, by number
+abbrev pub row : List ℕ → ℕ → ℕ → List ℕ
+row levels n l = each (λ g. when (eqb (getD levels g 0) l) (g ∷ [])) (from 0 n)
+
+-- the nets by level, 1 to d, then number
+unfoldable pub orderOf : List ℕ → ℕ → ℕ → List ℕ
+orderOf levels n d = each (row levels n) (from 1 d)
+
+-- a list at the front of 256 places, the rest 0
+abbrev pub padded : List ℕ → List ℕ
+padded xs = listed (λ i. getD xs i 0) 256
+
+-- "for a gate, the union over its pins, each element raised by 1", as a word
+unfoldable pub joined : ℕ → List ℕ → ℕ
+joined g ws = wordOf 64 (movedUp false (λ t. some (λ w. bit w t) ws))
+
+-- the sets along an order of the gates, from {0} for all
+unfoldable pub setsAlong : List ℕ → List ℕ → List ℕ → List ℕ
+setsAlong counts places order = listed (run eqb (pinsAt counts places) joined (λ g. 1) order) 256
+
+-- the sizes of the sets of an order's gates, added
+unfoldable pub sizesOf : List ℕ → List ℕ → ℕ
+sizesOf sets order = sum (λ g. count (bit (getD sets g 0)) 64) order
