@@ -2,16 +2,15 @@
 use mathlib.Core.Path.{_≡_, refl, sym, ap, _∙_, subst}
 use mathlib.Core.Bool.{Bool, true, false, cond}
 use mathlib.Core.List.{List}
-use Prim.Native.Nat.{ℕ, _≤_, _<_}
+use Prim.Native.Nat.{ℕ, _+_, _-_, _≤_, _<_}
+use native.Mathlib.Decide.{decLt}
 use native.Mathlib.Omega.{arith}
 use lib.Dec.{eqb, ltb}
-use lib.ListN.{length, getD, replicate}
-use borrow.Author.Tests.{eq-eqb, ne-eqb, lt-ltb}
-use Rattle.lists.specs.Listed.{listed}
-use Rattle.lists.proofs.Listed.{listed-at}
+use lib.ListN.{length, getD, replicate, List·getD-eq-default}
+use borrow.Author.Tests.{eq-eqb, ne-eqb}
 use Rattle.word.specs.Times.{count}
 use Rattle.word.proofs.Sets.{count-cong}
-use Rattle.rule.specs.Net.{Net, input, constant, gate, netAt, Pinned}
+use Rattle.rule.specs.Net.{Net, input, constant, gate, openValue, netAt, Pinned}
 use Rattle.rule.specs.Level.{depth}
 use Rattle.rule.specs.Steps.{gateOrder, stepList}
 use Rattle.rule.specs.declared.Refusal.{Refusal}
@@ -23,7 +22,9 @@ use Rattle.wiring.specs.declared.Wired.{Wired}
 use Rattle.wiring.specs.Layout.{Fits, kindOf, kindsOf, typesOf, countsOf, placesOf}
 use Rattle.wiring.specs.Wires.{Wires}
 use Rattle.wiring.specs.Wired.{pinsFit, mostBack, setWords, passed, refused as faulty, wiredOf}
-use Rattle.wiring.proofs.Layouts.{wires-laid}
+use Rattle.wiring.proofs.Layouts.{wires-laid, kind-at, kind-past}
+use Rattle.wiring.proofs.CardSets.{count-ends}
+use Rattle.rule.proofs.Nets.{at-pin-all}
 use Rattle.records.specs.declared.Outcome.the-variants.{Refused, Read}
 use Rattle.records.specs.declared.Parsed.{Parsed}
 use Rattle.records.specs.Written.{Bytes}
@@ -56,19 +57,31 @@ input-kind input = refl
 input-kind (constant k) = refl
 input-kind (gate ty ps) = refl
 
-pub inputs-counted : (c : List Net) → length c ≤ 256 → count (λ g. eqb (getD (kindsOf c) g 0) 1) (length c) ≡ inputsOf c
-unfolding kindsOf inputsOf
-inputs-counted c few =
-    count-cong _ _ (length c) at
+past-input : (c : List Net) (n : ℕ) → length c ≤ n → isInput (netAt c n) ≡ false
+unfolding netAt
+past-input c n l =
+    at-pin-all (λ p w. isInput w ≡ false) (constant openValue) (λ m. getD c m (constant false)) n refl (ap isInput (List·getD-eq-default c (constant false) l))
+
+pub inputs-laid : (c : List Net) → Fits c → (n : ℕ) → eqb (getD (kindsOf c) n 0) 1 ≡ isInput (netAt c n)
+inputs-laid c fit n = go (decLt n (length c))
   where
-    kind : ℕ → ℕ
-    kind n = cond (ltb n (length c)) (kindOf (netAt c n)) 0
+    go : Dec (n < length c) → eqb (getD (kindsOf c) n 0) 1 ≡ isInput (netAt c n)
+    go (yes l) = ap (λ k. eqb k 1) (kind-at c fit n l) ∙ input-kind (netAt c n)
+    go (no l) = ap (λ k. eqb k 1) (kind-past c fit n (omega arith)) ∙ sym (past-input c n (omega arith))
 
-    here : (n : ℕ) → n < length c → kind n ≡ kindOf (netAt c n)
-    here n l = ap (λ b. cond b (kindOf (netAt c n)) 0) (lt-ltb n (length c) l)
+pub inputs-counted : (c : List Net) → Fits c → count (λ g. eqb (getD (kindsOf c) g 0) 1) (length c) ≡ inputsOf c
+unfolding inputsOf
+inputs-counted c fit = count-cong _ _ (length c) (λ n l. inputs-laid c fit n)
 
-    at : (n : ℕ) → n < length c → eqb (getD (listed kind 256) n 0) 1 ≡ isInput (netAt c n)
-    at n l = ap (λ k. eqb k 1) (listed-at kind 256 n 0 (omega arith) ∙ here n l) ∙ input-kind (netAt c n)
+-- past the card there are none
+pub inputs-all-counted : (c : List Net) → Fits c → count (λ g. eqb (getD (kindsOf c) g 0) 1) 256 ≡ inputsOf c
+unfolding inputsOf
+inputs-all-counted c fit =
+    let few = fit .few in
+    let x : length c + (256 - length c) ≡ 256 = omega arith in
+    count-cong _ (λ n. isInput (netAt c n)) 256 (λ n l. inputs-laid c fit n)
+    ∙ ap (count (λ n. isInput (netAt c n))) (sym x)
+    ∙ count-ends (λ n. isInput (netAt c n)) (length c) (256 - length c) (past-input c)
 
 module _ (old : Session) (c : List Net) where
   pub judged-none : inputsOf c ≡ 0 → refusal old NoInput ≡ judged old c
@@ -121,7 +134,7 @@ module _ {c : List Net} {n : ℕ} {kinds types counts places : List ℕ} (laid :
   inputs-of : inputs ≡ inputsOf c
   inputs-of =
       counted ∙ ap (λ ks. count (λ g. eqb (getD ks g 0) 1) n) (laid .kinds-laid) ∙ ap (count (λ g. eqb (getD (kindsOf c) g 0) 1)) (sym (laid .size))
-      ∙ inputs-counted c (laid .fits .few)
+      ∙ inputs-counted c (laid .fits)
 
   pub judge-none : (old : Session) → inputs ≡ 0 → refusal old NoInput ≡ judged old c
   judge-none old e = judged-none old c (sym inputs-of ∙ e)

@@ -46,7 +46,7 @@ sum-count f (suc d) e =
     sum-more (λ t. val (f t)) 1 d ∙ rw x (omega arith)
 
 -- of a set that has nothing from d on
-count-ends : (f : ℕ → Bool) (d k : ℕ) → ((t : ℕ) → d ≤ t → f t ≡ false) → count f (d + k) ≡ count f d
+pub count-ends : (f : ℕ → Bool) (d k : ℕ) → ((t : ℕ) → d ≤ t → f t ≡ false) → count f (d + k) ≡ count f d
 unfolding count
 count-ends f d zero h = rw (add-zero d)
 count-ends f d (suc k) h = rw (add-suc d k, h (d + k) (omega arith)) (omega (arith, count-ends f d k h))

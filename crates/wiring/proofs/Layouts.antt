@@ -7,7 +7,7 @@ use native.Mathlib.Omega.{arith}
 use native.Mathlib.Decide.{decLt}
 use lib.Dec.{eqb, ltb}
 use lib.ListN.{length, getD}
-use borrow.Author.Tests.{lt-ltb}
+use borrow.Author.Tests.{lt-ltb, le-ltb}
 use Rattle.lists.specs.Entries.{_∈_, every, when, from}
 use Rattle.lists.specs.Listed.{listed}
 use Rattle.lists.proofs.Tests.{every-ext, map-on}
@@ -23,7 +23,7 @@ use Rattle.wiring.specs.Wires.{Wires, pinFits, allFit, backs, highest, r
 use Rattle.wiring.specs.Wired.{pinsFit}
 
 module _ (c : List Net) (fit : Fits c) where
-  count-at : (g : ℕ) → g < 256 → getD (countsOf c) g 0 ≡ length (pins c g)
+  pub count-at : (g : ℕ) → g < 256 → getD (countsOf c) g 0 ≡ length (pins c g)
   unfolding countsOf
   count-at g l = listed-at (λ n. length (pins c n)) 256 g 0 l
 
@@ -84,9 +84,22 @@ module _ (c : List Net) (fit : Fits c) where
     past = λ g l. listed-all (λ k. k ≡ 0) (λ n. length (pins c n)) 256 g 0 (ap length (past-pins g l)) refl;
   }
 
+  -- the arrays have the kind and the type of every net, and past the card the kind 0
+  pub kind-at : (g : ℕ) → g < length c → getD (kindsOf c) g 0 ≡ kindOf (netAt c g)
+  unfolding kindsOf
+  kind-at g l = let few = fit .few in listed-at (λ n. cond (ltb n (length c)) (kindOf (netAt c n)) 0) 256 g 0 (omega arith) ∙ rw (lt-ltb g (length c) l)
+
+  pub kind-past : (g : ℕ) → length c ≤ g → getD (kindsOf c) g 0 ≡ 0
+  unfolding kindsOf
+  kind-past g l = listed-all (λ k. k ≡ 0) (λ n. cond (ltb n (length c)) (kindOf (netAt c n)) 0) 256 g 0 (rw (le-ltb g (length c) l)) refl
+
+  pub type-at : (g : ℕ) → g < length c → getD (typesOf c) g 0 ≡ typeOf (netAt c g)
+  unfolding typesOf
+  type-at g l = let few = fit .few in listed-at (λ n. cond (ltb n (length c)) (typeOf (netAt c n)) 0) 256 g 0 (omega arith) ∙ rw (lt-ltb g (length c) l)
+
   -- and from the arrays the card is got back
   pub card-laid : cardIn (kindsOf c) (typesOf c) (countsOf c) (placesOf c) (length c) ≡ c
-  unfolding cardIn kindsOf typesOf
+  unfolding cardIn
   card-laid = sym (is-listed _ (length c) (constant false) c refl (λ g l. sym (net g l)))
     where
       same-net : (w : Net) → netOf (kindOf w) (typeOf w) (pinsOf w) ≡ w
@@ -96,8 +109,4 @@ module _ (c : List Net) (fit : Fits c) where
 
       net : (g : ℕ) → g < length c
           → netOf (getD (kindsOf c) g 0) (getD (typesOf c) g 0) (pinsAt (countsOf c) (placesOf c) g) ≡ getD c g (constant false)
-      net g l =
-          let few = fit .few in
-          let kind : getD (kindsOf c) g 0 ≡ kindOf (netAt c g) = listed-at (λ n. cond (ltb n (length c)) (kindOf (netAt c n)) 0) 256 g 0 (omega arith) ∙ rw (lt-ltb g (length c) l) in
-          let type : getD (typesOf c) g 0 ≡ typeOf (netAt c g) = listed-at (λ n. cond (ltb n (length c)) (typeOf (netAt c n)) 0) 256 g 0 (omega arith) ∙ rw (lt-ltb g (length c) l) in
-          rw (kind, type, pins-at g) (same-net (netAt c g) ∙ net-here c g (omega arith))
+      net g l = let few = fit .few in rw (kind-at g l, type-at g l, pins-at g) (same-net (netAt c g) ∙ net-here c g (omega arith))

@@ -1,6 +1,7 @@
 pub mod Pins
 pub mod Sweeps
 pub mod Orders
+pub mod Passes
 pub mod Sets
 pub mod Layouts
 pub mod CardSets

@@ -147,7 +147,8 @@ ordered-more order xs g e l =
     let room : length xs < 256 = rw e at l in
     rw e (λ i. record { gates = sym (length-append xs (g ∷ [])) i; list = padded-more xs g room i })
 
-padded-back : (xs : List ℕ) → length xs ≤ 256 → listed (λ i. getD (padded xs) i 0) (length xs) ≡ xs
+-- what stands at the front is read back
+pub padded-back : (xs : List ℕ) → length xs ≤ 256 → listed (λ i. getD (padded xs) i 0) (length xs) ≡ xs
 padded-back xs l = sym (is-listed (λ i. getD (padded xs) i 0) (length xs) 0 xs refl (λ i b. sym (listed-at (λ i. getD xs i 0) 256 i 0 (omega arith))))
 
 -- the order of the levels: it fits, and is read back from its array

@@ -1,6 +1,6 @@
 -- The laws of `bit`: of and, or, xor, not, the shifts and masks on words, and that a word is its bits. Assumes nothing.
 use mathlib.Core.Path.{_≡_, refl, sym, ap, ap₂, _∙_, subst}
-use mathlib.Core.Bool.{Bool, true, false, not, _&&_, _||_, or-false, or-true}
+use mathlib.Core.Bool.{cond, and-true, and-false, Bool, true, false, not, _&&_, _||_, or-false, or-true}
 use Prim.Native.Nat.{ℕ, zero, suc, _+_, _-_, _*_, _/_, _%_, _^_, _≤_, _<_, zero-le, suc-le-suc}
 use native.Mathlib.Nat.{sub-zero, one-mul, mul-div-cancel, mul-mod-left, mod-eq-of-lt, mod-lt, zero-lt-suc, div-one, pow-suc, div-eq-of-lt, not-suc-le-zero, div-add-mod', le-of-suc-le-suc, lt-of-lt-of-le}
 use native.Mathlib.Omega.{arith}
@@ -10,6 +10,8 @@ use lib.Pow.{pow-pos, pow-lt, shl-shr, shr-lt, mod-mod-pow, pow-mono, shr-shr, f
 use lib.Bits.{bitAnd, bitOr, bitXor, and-shr, or-shr, xor-shr, and-mask, mask-lt, and-mod, or-mod, xor-mod}
 use mir.Val.{boolByte}
 use lib.Dec.{eqb, lit<}
+use borrow.Author.Tests.{eq-eqb, ne-eqb}
+use native.Mathlib.Decide.{ℕ-discrete}
 use Rattle.word.specs.Word.{isOne, val, differ, bit, movedUp}
 use Rattle.word.specs.Times.{zeroIn}
 
@@ -193,3 +195,37 @@ bit-with-zero w (suc t) = bit-or w 1 (suc t) ∙ ap (λ b. bit w (suc t) || b) (
 -- every bit of the largest word is one
 pub bit-ones : (k t : ℕ) → t < k → bit (2 ^ k - 1) t ≡ true
 bit-ones k t l = rw sub-zero at (bit-not k 0 t (pow-pos k) l ∙ ap not (bit-none t))
+
+-- One bit put into a word
+
+bit-pow-same : (t : ℕ) → bit (2 ^ t) t ≡ true
+bit-pow-same zero = bit-zero 1
+bit-pow-same (suc t) =
+    let e : (2 ^ t * 2) / 2 ≡ 2 ^ t = omega arith in
+    rw (pow-suc 2 t) (bit-suc (2 ^ t * 2) t ∙ ap (λ w. bit w t) e ∙ bit-pow-same t)
+
+bit-pow-other : (t u : ℕ) → ¬ (u ≡ t) → bit (2 ^ t) u ≡ false
+bit-pow-other zero zero n = absurd (n refl)
+bit-pow-other zero (suc u) n = bit-suc 1 u ∙ bit-none u
+bit-pow-other (suc t) zero n =
+    let e : (2 ^ t * 2) % 2 ≡ 0 = omega arith in
+    rw (pow-suc 2 t) (bit-zero (2 ^ t * 2) ∙ ap isOne e)
+bit-pow-other (suc t) (suc u) n =
+    let e : (2 ^ t * 2) / 2 ≡ 2 ^ t = omega arith in
+    rw (pow-suc 2 t) (bit-suc (2 ^ t * 2) u ∙ ap (λ w. bit w u) e ∙ bit-pow-other t u (λ q. n (ap suc q)))
+
+-- `w | (1 << t)`
+pub bit-put-one : (w t u : ℕ) → bit (bitOr w (2 ^ t)) u ≡ cond (eqb u t) true (bit w u)
+bit-put-one w t u = go (ℕ-discrete u t)
+  where
+    go : Dec (u ≡ t) → bit (bitOr w (2 ^ t)) u ≡ cond (eqb u t) true (bit w u)
+    go (yes e) = bit-or w (2 ^ t) u ∙ rw (e, bit-pow-same t, eq-eqb t t refl) (or-true (bit w t))
+    go (no n) = bit-or w (2 ^ t) u ∙ rw (bit-pow-other t u n, ne-eqb u t n) (or-false (bit w u))
+
+-- `w & !(1 << t)`, in k bits
+pub bit-put-none : (k w t u : ℕ) → t < k → u < k → bit (bitAnd w ((2 ^ k - 1) - 2 ^ t)) u ≡ cond (eqb u t) false (bit w u)
+bit-put-none k w t u h l = bit-and w ((2 ^ k - 1) - 2 ^ t) u ∙ ap (λ b. bit w u && b) (bit-not k (2 ^ t) u (pow-lt h) l) ∙ go (ℕ-discrete u t)
+  where
+    go : Dec (u ≡ t) → (bit w u && not (bit (2 ^ t) u)) ≡ cond (eqb u t) false (bit w u)
+    go (yes e) = rw (e, bit-pow-same t, eq-eqb t t refl) (and-false (bit w t))
+    go (no n) = rw (bit-pow-other t u n, ne-eqb u t n) (and-true (bit w u))

@@ -1,0 +1,168 @@
+// Each operation by its line: it is called, and its answer put.
+ghost use mathlib.Core.List.{[]};
+ghost use Prim.Native.Nat.{_≤_};
+ghost use lib.ListN.{length, getD};
+ghost use Rattle.drill_text.specs.Parts.{words};
+ghost use Rattle.drill_text.specs.Digits.{bytesOf, Filled};
+ghost use Rattle.drill.specs.Kept.{Kept};
+use crate::Turn;
+use crate::answers::put_answer;
+use crate::answers::put_bytes;
+use crate::answers::put_net;
+use crate::answers::put_nets;
+use crate::answers::put_words;
+use card::Session;
+use session::Moved;
+
+// The bytes of a line's word 1, put at the start of `bytes`; how many there are.
+fn bytes_of(line: &[u8], bytes: &mut [u8]) -> usize
+    requires { ⌜ length (now line) ≤ 140000 ⌝ }
+    requires { ⌜ 70000 ≤ length (now bytes) ⌝ }
+    ensures { λ r. ⌜ Filled (bytesOf (getD (words (now (line .entry))) 1 [])) (now (bytes .entry)) (now (bytes .exit)) r ⌝ }
+{
+    drill_text::hex_into(drill_text::word(line, 1), bytes)
+}
+
+// The operations that take bytes and move the session.
+pub enum Move {
+    Load,
+    Rest,
+    Vector,
+}
+
+// A card taken, or refused.
+fn load(session: Session, s: &[u8]) -> Moved
+    requires { ⌜ Kept session ⌝ }
+    ensures { λ r. ⌜ Kept (r .session) ⌝ }
+{
+    let loaded = card::load(session, s);
+    let answer = loaded.answer;
+    let next = loaded.session;
+    Moved {
+        answer,
+        session: next,
+    }
+}
+
+// Each keeps what sessions keep.
+fn moved(how: Move, session: Session, s: &[u8]) -> Moved
+    requires { ⌜ Kept session ⌝ }
+    ensures { λ r. ⌜ Kept (r .session) ⌝ }
+{
+    match how {
+        Move::Load => load(session, s),
+        Move::Rest => session::rest(session, s),
+        Move::Vector => session::vector(session, s),
+    }
+}
+
+// load HEX, rest HEX, vector HEX
+pub fn move_line(
+    how: Move,
+    session: Session,
+    line: &[u8],
+    bytes: &mut [u8],
+    out: &mut [u8; 8192],
+    at: usize,
+) -> Turn
+    requires { ⌜ Kept session ⌝ }
+    requires { ⌜ length (now line) ≤ 140000 ⌝ }
+    requires { ⌜ 70000 ≤ length (now bytes) ⌝ }
+    ensures { λ r. ⌜ Kept (r .session) ⌝ }
+{
+    let n = bytes_of(line, bytes);
+    let left = moved(how, session, &bytes[..n]);
+    let answer = left.answer;
+    let next = left.session;
+    let end = put_answer(out, at, answer);
+    Turn {
+        session: next,
+        at: end,
+    }
+}
+
+// net N
+pub fn net_line(session: Session, n: u64, out: &mut [u8; 8192], at: usize) -> usize
+    requires { ⌜ Kept session ⌝ }
+{
+    put_net(out, at, card::ask_net(session, n))
+}
+
+// A history into three lent rooms, and the rooms.
+fn put_history(
+    session: Session,
+    words: &mut [u64],
+    befores: &mut [u8],
+    flags: &mut [u8],
+    out: &mut [u8; 8192],
+    at: usize,
+) -> usize
+    requires { ⌜ Kept session ⌝ }
+{
+    let answer = history::history(session, words, befores, flags);
+    let head = put_answer(out, at, answer);
+    let first = put_words(out, head, words);
+    let second = put_bytes(out, first, befores);
+    put_bytes(out, second, flags)
+}
+
+// history WORDS BEFORES FLAGS
+pub fn history_line(
+    session: Session,
+    a: u64,
+    b: u64,
+    c: u64,
+    out: &mut [u8; 8192],
+    at: usize,
+) -> usize
+    requires { ⌜ Kept session ⌝ }
+    requires { ⌜ (a ≤ 20000) × (b ≤ 20000) × (c ≤ 20000) ⌝ }
+{
+    let mut words = [170u64; 20000];
+    let mut befores = [170u8; 20000];
+    let mut flags = [170u8; 20000];
+    let i = a as usize;
+    let j = b as usize;
+    let k = c as usize;
+    put_history(
+        session,
+        &mut words[..i],
+        &mut befores[..j],
+        &mut flags[..k],
+        out,
+        at,
+    )
+}
+
+// A trace into a lent room, and the room.
+fn put_trace(
+    session: Session,
+    n: u64,
+    t: u64,
+    room: &mut [u16],
+    out: &mut [u8; 8192],
+    at: usize,
+) -> usize
+    requires { ⌜ Kept session ⌝ }
+{
+    let answer = history::trace(session, n, t, room);
+    let head = put_answer(out, at, answer);
+    put_nets(out, head, room)
+}
+
+// trace N TIME ROOM
+pub fn trace_line(
+    session: Session,
+    n: u64,
+    t: u64,
+    room: u64,
+    out: &mut [u8; 8192],
+    at: usize,
+) -> usize
+    requires { ⌜ Kept session ⌝ }
+    requires { ⌜ room ≤ 20000 ⌝ }
+{
+    let mut nets = [170u16; 20000];
+    let k = room as usize;
+    put_trace(session, n, t, &mut nets[..k], out, at)
+}

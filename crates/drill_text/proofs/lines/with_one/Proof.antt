@@ -1,0 +1,147 @@
+-- A line of two words: `withOne`, at the names that it was compared with. Assumes nothing.
+use mathlib.Core.Path.{_≡_, sym, ap, _∙_}
+use mathlib.Core.Bool.{false}
+use Rattle.drill_text.specs.Lines.{sameText, load, rest, vector, steps, records, net, recordsOf, netOf, withOne}
+use borrow.Author.Needs.{needs}
+use Rattle.drill_text.proofs.lines.with_one.Statement.{statement}
+use Rattle.drill_text.proofs.lines.with_one.Tie as tie
+
+-- the names that it was not
+
+no-load : (c : tie.Else1) → sameText (c .before .before .before .before .before .args .name .now) load ≡ false
+no-load c = sym (c .before .same .ensures) ∙ c .if1 .left
+
+no-rest : (c : tie.Else2) → sameText (c .before .before .before .before .before .before .before .before .args .name .now) rest ≡ false
+no-rest c = sym (c .before .same2 .ensures) ∙ c .if2 .left
+
+no-vector : (c : tie.Else3) → sameText (c .before .before .before .before .before .before .before .before .before .before .before .args .name .now) vector ≡ false
+no-vector c = sym (c .before .same3 .ensures) ∙ c .if3 .left
+
+no-steps : (c : tie.Else4) → sameText (c .before .before .before .before .before .before .before .before .before .before .before .before .before .before .args .name .now) steps ≡ false
+no-steps c = sym (c .before .same4 .ensures) ∙ c .if4 .left
+
+no-records : (c : tie.Else5) → sameText (c .before .before .before .before .before .before .before .before .before .before .before .before .before .before .before .before .before .args .name .now) records ≡ false
+no-records c = sym (c .before .same5 .ensures) ∙ c .if5 .left
+
+no-net : (c : tie.Else6) → sameText (c .before .before .before .before .before .before .before .before .before .before .before .before .before .before .before .before .before .before .before .before .args .name .now) net ≡ false
+no-net c = sym (c .before .same6 .ensures) ∙ c .if6 .left
+
+slice-aggregate-same : tie.Need-slice-aggregate-same
+slice-aggregate-same c = search needs
+
+same-requires : tie.Need-same-requires
+same-requires c κs = search needs
+
+if-hex-requires : tie.Need-if-hex-requires
+if-hex-requires c κs = search needs
+
+returns : tie.Need-returns
+unfolding withOne
+returns c = c .if-hex .ensures ∙ rw (sym (c .before .before .same .ensures) ∙ c .before .if1 .taken)
+
+slice-aggregate-same-2 : tie.Need-slice-aggregate-same-2
+slice-aggregate-same-2 c = search needs
+
+same-requires-2 : tie.Need-same-requires-2
+same-requires-2 c κs = search needs
+
+if-hex-requires-2 : tie.Need-if-hex-requires-2
+if-hex-requires-2 c κs = search needs
+
+returns-2 : tie.Need-returns-2
+unfolding withOne
+returns-2 c = c .if-hex2 .ensures ∙ rw (no-load (c .before .before .before .before), sym (c .before .before .same2 .ensures) ∙ c .before .if2 .taken)
+
+slice-aggregate-same-3 : tie.Need-slice-aggregate-same-3
+slice-aggregate-same-3 c = search needs
+
+same-requires-3 : tie.Need-same-requires-3
+same-requires-3 c κs = search needs
+
+if-hex-requires-3 : tie.Need-if-hex-requires-3
+if-hex-requires-3 c κs = search needs
+
+returns-3 : tie.Need-returns-3
+unfolding withOne
+returns-3 c = c .if-hex3 .ensures ∙ rw (no-load (c .before .before .before .before .before .before .before), no-rest (c .before .before .before .before), sym (c .before .before .same3 .ensures) ∙ c .before .if3 .taken)
+
+slice-aggregate-same-4 : tie.Need-slice-aggregate-same-4
+slice-aggregate-same-4 c = search needs
+
+same-requires-4 : tie.Need-same-requires-4
+same-requires-4 c κs = search needs
+
+if-hex-requires-4 : tie.Need-if-hex-requires-4
+if-hex-requires-4 c κs = search needs
+
+returns-4 : tie.Need-returns-4
+unfolding withOne
+returns-4 c = c .if-hex4 .ensures ∙ rw (no-load (c .before .before .before .before .before .before .before .before .before .before), no-rest (c .before .before .before .before .before .before .before), no-vector (c .before .before .before .before), sym (c .before .before .same4 .ensures) ∙ c .before .if4 .taken)
+
+slice-aggregate-same-5 : tie.Need-slice-aggregate-same-5
+slice-aggregate-same-5 c = search needs
+
+same-requires-5 : tie.Need-same-requires-5
+same-requires-5 c κs = search needs
+
+room-of-requires : tie.Need-room-of-requires
+room-of-requires c κs = search needs
+
+records-of-requires : tie.Need-records-of-requires
+records-of-requires c κs = search needs
+
+returns-5 : tie.Need-returns-5
+unfolding withOne
+returns-5 c = c .records-of .ensures ∙ ap recordsOf (c .before .room-of .ensures) ∙ rw (no-load (c .before .before .before .before .before .before .before .before .before .before .before .before .before .before), no-rest (c .before .before .before .before .before .before .before .before .before .before .before), no-vector (c .before .before .before .before .before .before .before .before), no-steps (c .before .before .before .before .before), sym (c .before .before .before .same5 .ensures) ∙ c .before .before .if5 .taken)
+
+slice-aggregate-same-6 : tie.Need-slice-aggregate-same-6
+slice-aggregate-same-6 c = search needs
+
+same-requires-6 : tie.Need-same-requires-6
+same-requires-6 c κs = search needs
+
+number-of-requires : tie.Need-number-of-requires
+number-of-requires c κs = search needs
+
+net-of-requires : tie.Need-net-of-requires
+net-of-requires c κs = search needs
+
+returns-6 : tie.Need-returns-6
+unfolding withOne
+returns-6 c = c .net-of .ensures ∙ ap netOf (c .before .number-of .ensures) ∙ rw (no-load (c .before .before .before .before .before .before .before .before .before .before .before .before .before .before .before .before .before), no-rest (c .before .before .before .before .before .before .before .before .before .before .before .before .before .before), no-vector (c .before .before .before .before .before .before .before .before .before .before .before), no-steps (c .before .before .before .before .before .before .before .before), no-records (c .before .before .before .before .before), sym (c .before .before .before .same6 .ensures) ∙ c .before .before .if6 .taken)
+
+returns-7 : tie.Need-returns-7
+unfolding withOne
+returns-7 c = rw (no-load (c .before .before .before .before .before .before .before .before .before .before .before .before .before .before .before), no-rest (c .before .before .before .before .before .before .before .before .before .before .before .before), no-vector (c .before .before .before .before .before .before .before .before .before), no-steps (c .before .before .before .before .before .before), no-records (c .before .before .before), no-net (c))
+
+pub with-one-spec : {M : Type 1} → statement M
+with-one-spec =
+    tie.close
+    (tie.spec
+    slice-aggregate-same
+    same-requires
+    if-hex-requires
+    returns
+    slice-aggregate-same-2
+    same-requires-2
+    if-hex-requires-2
+    returns-2
+    slice-aggregate-same-3
+    same-requires-3
+    if-hex-requires-3
+    returns-3
+    slice-aggregate-same-4
+    same-requires-4
+    if-hex-requires-4
+    returns-4
+    slice-aggregate-same-5
+    same-requires-5
+    room-of-requires
+    records-of-requires
+    returns-5
+    slice-aggregate-same-6
+    same-requires-6
+    number-of-requires
+    net-of-requires
+    returns-6
+    returns-7)

@@ -1,0 +1,139 @@
+-- What a line asks for. Assumes nothing.
+use mathlib.Core.Bool.{Bool, true, false, cond}
+use mathlib.Core.List.{List, [], _∷_}
+use Prim.Native.Nat.{ℕ, _≤_}
+use lib.Dec.{eqb, ltb}
+use lib.ListN.{length}
+use Rattle.drill_text.specs.declared.Number.{Number}
+use Rattle.drill_text.specs.declared.Number.the-variants.{Spelled, Unreadable}
+use Rattle.drill_text.specs.declared.Command.{Command}
+use Rattle.drill_text.specs.declared.Command.the-variants.{Bad, Load, Rest, Vector, Steps, History, List as Steplist, Records, Net, Trace, Bench}
+use Rattle.drill_text.specs.Parts.{words}
+use Rattle.drill_text.specs.Digits.{numberOf, roomOf, isHex}
+use Rattle.drill_text.specs.Orders.{isOrder}
+
+-- two texts are the same
+unfoldable pub sameText : List ℕ → List ℕ → Bool
+sameText [] [] = true
+sameText [] (y ∷ ys) = false
+sameText (x ∷ xs) [] = false
+sameText (x ∷ xs) (y ∷ ys) = cond (eqb x y) (sameText xs ys) false
+
+-- the names of the operations, in ASCII
+
+abbrev pub load : List ℕ
+load = 108 ∷ 111 ∷ 97 ∷ 100 ∷ []
+
+abbrev pub rest : List ℕ
+rest = 114 ∷ 101 ∷ 115 ∷ 116 ∷ []
+
+abbrev pub vector : List ℕ
+vector = 118 ∷ 101 ∷ 99 ∷ 116 ∷ 111 ∷ 114 ∷ []
+
+abbrev pub steps : List ℕ
+steps = 115 ∷ 116 ∷ 101 ∷ 112 ∷ 115 ∷ []
+
+abbrev pub history : List ℕ
+history = 104 ∷ 105 ∷ 115 ∷ 116 ∷ 111 ∷ 114 ∷ 121 ∷ []
+
+abbrev pub list : List ℕ
+list = 108 ∷ 105 ∷ 115 ∷ 116 ∷ []
+
+abbrev pub records : List ℕ
+records = 114 ∷ 101 ∷ 99 ∷ 111 ∷ 114 ∷ 100 ∷ 115 ∷ []
+
+abbrev pub net : List ℕ
+net = 110 ∷ 101 ∷ 116 ∷ []
+
+abbrev pub trace : List ℕ
+trace = 116 ∷ 114 ∷ 97 ∷ 99 ∷ 101 ∷ []
+
+abbrev pub bench : List ℕ
+bench = 98 ∷ 101 ∷ 110 ∷ 99 ∷ 104 ∷ []
+
+-- a command, if each of its words is what it should be
+
+abbrev pub ifHex : List ℕ → Command → Command
+ifHex word then = cond (isHex word) then Bad
+
+abbrev pub recordsOf : Number → Command
+recordsOf (Spelled room) = Records room
+recordsOf Unreadable = Bad
+
+abbrev pub netOf : Number → Command
+netOf (Spelled n) = Net n
+netOf Unreadable = Bad
+
+abbrev pub listOf : Number → Number → Command
+listOf Unreadable y = Bad
+listOf (Spelled nets) Unreadable = Bad
+listOf (Spelled nets) (Spelled times) = Steplist nets times
+
+abbrev pub historyOf : Number → Number → Number → Command
+historyOf Unreadable y z = Bad
+historyOf (Spelled w) Unreadable z = Bad
+historyOf (Spelled w) (Spelled b) Unreadable = Bad
+historyOf (Spelled w) (Spelled b) (Spelled f) = History w b f
+
+abbrev pub traceOf : Number → Number → Number → Command
+traceOf Unreadable y z = Bad
+traceOf (Spelled n) Unreadable z = Bad
+traceOf (Spelled n) (Spelled t) Unreadable = Bad
+traceOf (Spelled n) (Spelled t) (Spelled room) = Trace n t room
+
+abbrev pub benchOf : Number → Number → Command
+benchOf Unreadable y = Bad
+benchOf (Spelled k) Unreadable = Bad
+benchOf (Spelled k) (Spelled room) = Bench k room
+
+-- `load HEX | rest HEX | vector HEX | steps HEX | records ROOM | net N`
+unfoldable pub withOne : List ℕ → List ℕ → Command
+withOne name a =
+    cond (sameText name load) (ifHex a Load)
+    (cond (sameText name rest) (ifHex a Rest)
+    (cond (sameText name vector) (ifHex a Vector)
+    (cond (sameText name steps) (ifHex a Steps)
+    (cond (sameText name records) (recordsOf (roomOf a))
+    (cond (sameText name net) (netOf (numberOf a)) Bad)))))
+
+-- `list NETS TIMES`
+unfoldable pub withTwo : List ℕ → List ℕ → List ℕ → Command
+withTwo name a b = cond (sameText name list) (listOf (roomOf a) (roomOf b)) Bad
+
+-- `history WORDS BEFORES FLAGS | trace N TIME ROOM`
+unfoldable pub withThree : List ℕ → List ℕ → List ℕ → List ℕ → Command
+withThree name a b c =
+    cond (sameText name history) (historyOf (roomOf a) (roomOf b) (roomOf c))
+    (cond (sameText name trace) (traceOf (numberOf a) (numberOf b) (roomOf c)) Bad)
+
+-- `bench HEX ORDER K ROOM`
+unfoldable pub withFour : List ℕ → List ℕ → List ℕ → List ℕ → List ℕ → Command
+withFour name a b c d = cond (sameText name bench) (cond (isHex a) (cond (isOrder b) (benchOf (numberOf c) (roomOf d)) Bad) Bad) Bad
+
+-- by the number of words
+unfoldable pub asked : List (List ℕ) → Command
+asked [] = Bad
+asked (name ∷ []) = Bad
+asked (name ∷ a ∷ []) = withOne name a
+asked (name ∷ a ∷ b ∷ []) = withTwo name a b
+asked (name ∷ a ∷ b ∷ c ∷ []) = withThree name a b c
+asked (name ∷ a ∷ b ∷ c ∷ d ∷ []) = withFour name a b c d
+asked (name ∷ a ∷ b ∷ c ∷ d ∷ e ∷ es) = Bad
+
+-- "a line to 140,000 bytes"; "A line that is none of these answers `?` and changes nothing."
+unfoldable pub commandOf : List ℕ → Command
+commandOf line = cond (ltb 140000 (length line)) Bad (asked (words line))
+
+-- every room that a command asks for has at most 20,000 entries
+abbrev pub RoomsFit : Command → Type 0
+RoomsFit Bad = Unit
+RoomsFit Load = Unit
+RoomsFit Rest = Unit
+RoomsFit Vector = Unit
+RoomsFit Steps = Unit
+RoomsFit (History words befores flags) = (words ≤ 20000) × (befores ≤ 20000) × (flags ≤ 20000)
+RoomsFit (Steplist nets times) = (nets ≤ 20000) × (times ≤ 20000)
+RoomsFit (Records room) = room ≤ 20000
+RoomsFit (Net n) = Unit
+RoomsFit (Trace n t room) = room ≤ 20000
+RoomsFit (Bench k room) = room ≤ 20000

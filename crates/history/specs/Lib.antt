@@ -1,0 +1,4 @@
+pub mod Filled
+pub mod Told
+pub mod Traced
+pub mod Caused

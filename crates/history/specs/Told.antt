@@ -1,0 +1,45 @@
+-- History: "12, 18"; "History fills three lent slices, one entry a net: word, before value (the one from ahead of that word's time 0), flag."
+-- Assumes nothing.
+use mathlib.Core.Bool.{Bool, false, cond, _&&_}
+use mathlib.Core.List.{List}
+use Prim.Native.Nat.{ℕ}
+use lib.Dec.{leb}
+use lib.ListN.{length, getD}
+use Rattle.word.specs.Word.{bit, val}
+use Rattle.rule.specs.Flag.{flagOf}
+use Rattle.rule.specs.declared.Refusal.the-variants.{NotReady, NoRoom}
+use Rattle.rule.specs.declared.Answer.{Answer}
+use Rattle.rule.specs.declared.Answer.the-variants.{Done, Refused}
+use Rattle.card.specs.declared.Session.{Session}
+use Rattle.history.specs.Filled.{filled}
+
+-- what a history hands back, and the three lent slices after it
+pub record Told : Type 0 where
+  pub answer : Answer
+  pub words : List ℕ
+  pub befores : List ℕ
+  pub flags : List ℕ
+
+abbrev pub wordAt : Session → ℕ → ℕ
+wordAt s n = getD (s .words) n 0
+
+abbrev pub beforeAt : Session → ℕ → Bool
+beforeAt s n = getD (s .before) n false
+
+abbrev pub flagAt : Session → ℕ → ℕ
+flagAt s n = flagOf (beforeAt s n) (bit (wordAt s n))
+
+-- "history the number of nets"
+unfoldable pub historyOf : Session → List ℕ → List ℕ → List ℕ → Told
+historyOf s words befores flags =
+    let kept : Answer → Told = λ a. record { answer = a; words = words; befores = befores; flags = flags } in
+    cond (s .rested)
+    (cond (leb (s .nets) (length words) && (leb (s .nets) (length befores) && leb (s .nets) (length flags)))
+    (record {
+      answer = Done (s .nets);
+      words = filled (wordAt s) (s .nets) words;
+      befores = filled (λ n. val (beforeAt s n)) (s .nets) befores;
+      flags = filled (flagAt s) (s .nets) flags;
+    })
+    (kept (Refused NoRoom)))
+    (kept (Refused NotReady))

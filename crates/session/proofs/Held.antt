@@ -1,0 +1,130 @@
+-- What a session that holds a card has for the loops over its arrays: the gates in their order, its inputs, the values of a vector, and a
+-- pass along the gates. Assumes nothing.
+use mathlib.Core.Path.{_≡_, refl, sym, ap, ap₂, _∙_, subst}
+use mathlib.Core.Bool.{Bool, false, cond, true≢false}
+use mathlib.Core.List.{List}
+use Prim.Native.Nat.{ℕ, _≤_, _<_}
+use native.Mathlib.Omega.{arith}
+use native.Mathlib.Decide.{decLt}
+use lib.Dec.{eqb}
+use lib.ListN.{length, getD}
+use Rattle.lists.specs.Entries.{_∈_}
+use Rattle.lists.specs.Listed.{listed}
+use Rattle.lists.proofs.Listed.{listed-at, listed-past, in-listed}
+use Rattle.lists.proofs.Number.{distinct-below}
+use Rattle.word.specs.Times.{count}
+use Rattle.word.specs.Word.{isOne}
+use Rattle.word.proofs.Words.{one-val}
+use Rattle.word.proofs.Sets.{count-cong}
+use Rattle.rule.specs.Net.{Net, input, constant, gate, netAt, pins, pinsOf, isSource}
+use Rattle.rule.specs.Steps.{gateOrder}
+use Rattle.rule.proofs.Nets.{not-open}
+use Rattle.rule.proofs.GateOrders.{out-order, order-once}
+use Rattle.wiring.specs.Layout.{Fits, kindOf, typeOf, kindsOf, typesOf}
+use Rattle.wiring.proofs.Layouts.{count-at, kind-at, kind-past, type-at}
+use Rattle.wiring.proofs.Orders.{padded-back}
+use Rattle.card.specs.declared.Session.{Session}
+use Rattle.card.specs.Session.{cardOf, isInput}
+use Rattle.card.specs.Held.{HasCard}
+use Rattle.card.proofs.Reading.{inputs-laid, inputs-all-counted}
+use Rattle.card.proofs.Kept.{inputs-are, gates-are, kinds-are, types-are, counts-are, places-are, order-is, card-fits}
+use Rattle.session.specs.Good.{histories}
+use Rattle.session.specs.Inputs.{isInputKind, rank, given, givenTo}
+use Rattle.session.specs.Fields.{Gates, passed, startAt, constantAt}
+use Rattle.session.proofs.Vectors.{given-other}
+use Rattle.session.proofs.States.{net-past}
+use Rattle.session.proofs.Histories.{pass-histories}
+
+-- a pass over the same arrays
+same-pass : (values : List Bool) {before before′ : List Bool} {types types′ counts counts′ places places′ kinds kinds′ order order′ : List ℕ}
+    → before ≡ before′ → types ≡ types′ → counts ≡ counts′ → places ≡ places′ → kinds ≡ kinds′ → order ≡ order′
+    → passed before types counts places (listed (startAt kinds values before) 256) order ≡ passed before′ types′ counts′ places′ (listed (startAt kinds′ values before′) 256) order′
+same-pass values a b d e f g = rw (a, b, d, e, f, g)
+
+module _ (s : Session) (h : HasCard s) where
+  abbrev c : List Net
+  c = cardOf s
+
+  -- The gates
+
+  few-gates : length (gateOrder c) ≤ 256
+  few-gates = let few = card-fits s h .fits .few in omega (arith, distinct-below (length c) (gateOrder c) (order-once c) (λ g m. out-order c g m .1))
+
+  order-back : listed (λ i. getD (s .order) i 0) (s .gates) ≡ gateOrder c
+  order-back = ap₂ (λ xs k. listed (λ i. getD xs i 0) k) (order-is s h) (gates-are s h) ∙ padded-back (gateOrder c) few-gates
+
+  gate-has : (g : ℕ) → isSource (netAt c g) ≡ false → (typeOf (netAt c g) < 8) × (0 < length (pins c g))
+  gate-has g e = go (netAt c g) refl e
+    where
+      go : (w : Net) → netAt c g ≡ w → isSource w ≡ false → (typeOf w < 8) × (0 < length (pinsOf w))
+      go input q x = absurd (true≢false x)
+      go (constant k) q x = absurd (true≢false x)
+      go (gate ty ps) q x = let r = card-fits s h .gates g ty ps q in (r .0, r .1)
+
+  pub gates-fit : (s .gates ≤ 256) × ((i : ℕ) → i < s .gates → Gates (s .types) (s .counts) (getD (s .order) i 0))
+  gates-fit = (omega (arith, gates-are s h, few-gates), λ i l. gated (getD (s .order) i 0) (subst (λ xs. getD (s .order) i 0 ∈ xs) order-back (in-listed (λ j. getD (s .order) j 0) (s .gates) i l)))
+    where
+      gated : (g : ℕ) → g ∈ gateOrder c → Gates (s .types) (s .counts) g
+      gated g m =
+          let o = out-order c g m in
+          let fits = card-fits s h .fits in
+          let few = fits .few in
+          let below : g < 256 = omega (arith, o .1) in
+          let type : getD (s .types) g 0 ≡ typeOf (netAt c g) = ap (λ xs. getD xs g 0) (types-are s h) ∙ type-at c fits g (o .1) in
+          let size : getD (s .counts) g 0 ≡ length (pins c g) = ap (λ xs. getD xs g 0) (counts-are s h) ∙ count-at c fits g below in
+          let has = gate-has g (o .0) in
+          record { net = below; type = omega (arith, type, has .0); pinned = omega (arith, size, has .1) }
+
+  -- The inputs
+
+  pub inputs-ranked : s .inputs ≡ rank (s .kinds) 256
+  unfolding rank
+  inputs-ranked =
+      inputs-are s h ∙ sym (inputs-all-counted c (card-fits s h .fits)) ∙ ap (λ ks. count (λ m. eqb (getD ks m 0) 1) 256) (sym (kinds-are s h))
+
+  -- the values of a vector, in their array
+  pub given-listed : (v : List ℕ) (n : ℕ) → getD (listed (given (s .kinds) v) 256) n false ≡ given (s .kinds) v n
+  given-listed v n = go (decLt n 256)
+    where
+      go : Dec (n < 256) → getD (listed (given (s .kinds) v) 256) n false ≡ given (s .kinds) v n
+      go (yes l) = listed-at (given (s .kinds) v) 256 n false l
+      go (no l) =
+          let fits = card-fits s h .fits in
+          let few = fits .few in
+          let none : getD (s .kinds) n 0 ≡ 0 = ap (λ xs. getD xs n 0) (kinds-are s h) ∙ kind-past c fits n (omega arith) in
+          listed-past (given (s .kinds) v) 256 n false (omega arith) ∙ given-other (s .kinds) v n (λ e. omega (arith, none))
+
+  -- they are the card's: input j has byte j
+  pub given-card : (v : List ℕ) (n : ℕ) → given (s .kinds) v n ≡ givenTo c v n
+  unfolding given givenTo rank
+  given-card v n =
+      let kind : (m : ℕ) → isInputKind (getD (s .kinds) m 0) ≡ isInput (netAt c m) = λ m. ap (λ ks. isInputKind (getD ks m 0)) (kinds-are s h) ∙ inputs-laid c (card-fits s h .fits) m in
+      ap₂ (λ b k. cond b (isOne (getD v k 0)) false) (kind n) (count-cong (λ m. isInputKind (getD (s .kinds) m 0)) (λ m. isInput (netAt c m)) n (λ m l. kind m))
+
+  -- A pass along the gates leaves the rule's histories, where each constant has its value
+
+  pub session-pass : (old : ℕ → Bool) (values before : List Bool) (start words : List ℕ) → ((n : ℕ) (k : Bool) → n < 256 → netAt c n ≡ constant k → old n ≡ k)
+      → before ≡ listed old 256 → start ≡ listed (startAt (s .kinds) values before) 256
+      → words ≡ passed before (s .types) (s .counts) (s .places) start (listed (λ i. getD (s .order) i 0) (s .gates))
+      → words ≡ histories c old (λ n. getD values n false)
+  session-pass old values before start words fixed eb es ew =
+      ew ∙ ap (λ xs. passed before (s .types) (s .counts) (s .places) xs (listed (λ i. getD (s .order) i 0) (s .gates))) es
+      ∙ same-pass values eb (types-are s h) (counts-are s h) (places-are s h) (kinds-are s h) order-back
+      ∙ pass-histories c (card-fits s h) (h .accepted .free) old values fixed
+
+  -- a constant's value, in the arrays
+  pub constant-held : (n : ℕ) (k : Bool) → n < 256 → netAt c n ≡ constant k → constantAt (getD (s .kinds) n 0) (getD (s .types) n 0) ≡ k
+  constant-held n k l e =
+      ap₂ (λ ks ts. constantAt (getD ks n 0) (getD ts n 0)) (kinds-are s h) (types-are s h) ∙ go (decLt n (length c))
+    where
+      constantOf : Net → Bool
+      constantOf input = false
+      constantOf (constant b) = b
+      constantOf (gate ty ps) = false
+
+      fits : Fits c
+      fits = card-fits s h .fits
+
+      go : Dec (n < length c) → constantAt (getD (kindsOf c) n 0) (getD (typesOf c) n 0) ≡ k
+      go (yes b) = ap₂ constantAt (kind-at c fits n b ∙ ap kindOf e) (type-at c fits n b ∙ ap typeOf e) ∙ one-val k
+      go (no b) = ap (λ x. constantAt x (getD (typesOf c) n 0)) (kind-past c fits n (omega arith)) ∙ ap constantOf (sym (net-past c n (omega arith) (not-open n (omega arith))) ∙ e)

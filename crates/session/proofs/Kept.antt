@@ -1,0 +1,73 @@
+-- The empty session is good, and load, rest and a vector keep a session so, whatever they are given. Assumes nothing.
+use mathlib.Core.Path.{_≡_, refl, ap}
+use mathlib.Core.Bool.{Bool, true, false≢true}
+use mathlib.Core.List.{List}
+use Prim.Native.Nat.{ℕ}
+use Rattle.lists.specs.Listed.{listed}
+use Rattle.records.specs.Written.{Bytes}
+use Rattle.card.specs.declared.Session.{Session}
+use Rattle.card.specs.declared.Loaded.{Loaded}
+use Rattle.card.specs.Session.{none, sessionOf, cardOf, resting}
+use Rattle.card.specs.Load.{loadOf}
+use Rattle.card.specs.Held.{HasCard}
+use Rattle.card.proofs.Kept.{none-carded}
+use Rattle.card.proofs.Verdicts.{Ruling as LoadRuling, refuses as load-refuses, takes as load-takes, ruled as load-ruled, load-carded}
+use Rattle.session.specs.declared.Moved.{Moved}
+use Rattle.session.specs.Good.{histories, Rested, Good}
+use Rattle.session.specs.Inputs.{given}
+use Rattle.session.specs.Moves.{ends, movedBy, vectorOf, settled, restedBy, restOf}
+use Rattle.session.proofs.Moving.{ends-calm}
+use Rattle.session.proofs.Settling.{settled-rests, flat-histories}
+use Rattle.session.proofs.Refusals.{Ruling, refuses, takes, rest-ruled, vector-ruled}
+
+pub none-good : Good none
+unfolding none
+none-good = record { card = none-carded; rest = λ e. absurd (false≢true e) }
+
+-- a card just loaded is not yet rested; a refused one leaves the old session
+pub load-good : (old : Session) (s : List ℕ) → Good old → Bytes s → Good (loadOf old s .session)
+unfolding sessionOf
+load-good old s g bytes = record { card = load-carded old s bytes (g .card); rest = go (loadOf old s) (load-ruled old s bytes) }
+  where
+    go : (x : Loaded) → LoadRuling old s x → x .session .rested ≡ true → (x .session .loaded ≡ true) × Rested (x .session)
+    go x (load-refuses r w) e = g .rest e
+    go x (load-takes a) e = absurd (false≢true e)
+
+-- another rest is of the same card
+same-card : (s : Session) (rested : Bool) (before : List Bool) (words : List ℕ) → HasCard s → HasCard (resting s rested before words)
+unfolding cardOf
+same-card s rested before words h = record { accepted = h .accepted; laid = ap (λ x. resting x rested before words) (h .laid) }
+
+module _ (s : Session) (g : Good s) where
+  pub moved-good : s .rested ≡ true → (new : ℕ → Bool) → Good (movedBy s new)
+  unfolding movedBy cardOf
+  moved-good r new =
+      let q = g .rest r in
+      let h = g .card (q .0) in
+      record {
+        card = λ l. same-card s (s .rested) (listed (ends s) 256) (histories (cardOf s) (ends s) new) h;
+        rest = λ e. (q .0, record { old = ends s; new = new; calm = ends-calm s h (q .1); before-are = refl; words-are = refl });
+      }
+
+  pub rested-good : s .loaded ≡ true → (new : ℕ → Bool) → Good (restedBy s new)
+  unfolding restedBy cardOf
+  rested-good l new =
+      let h = g .card l in
+      record {
+        card = λ e. same-card s true _ _ h;
+        rest = λ e. (l, record { old = settled (cardOf s) new; new = new; calm = settled-rests s h new .calm; before-are = refl; words-are = flat-histories s h new });
+      }
+
+  pub rest-good : (v : List ℕ) → Good (restOf s v .session)
+  rest-good v = go (restOf s v) (rest-ruled s v)
+    where
+      go : (x : Moved) → Ruling (s .loaded) s v (restedBy s (given (s .kinds) v)) x → Good (x .session)
+      go x (refuses r w) = g
+      go x (takes l w) = rested-good l (given (s .kinds) v)
+
+  pub vector-good : (v : List ℕ) → Good (vectorOf s v .session)
+  vector-good v = go (vectorOf s v) (vector-ruled s v)
+    where
+      go : (x : Moved) → Ruling (s .rested) s v (movedBy s (given (s .kinds) v)) x → Good (x .session)
+      go x (refuses r w) = g
+      go x (takes l w) = moved-good l (given (s .kinds) v)

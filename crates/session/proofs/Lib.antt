@@ -1,0 +1,14 @@
+pub mod Fills
+pub mod Vectors
+pub mod Fields
+pub mod States
+pub mod Histories
+pub mod Held
+pub mod Moving
+pub mod Settling
+pub mod Answers
+pub mod Refusals
+pub mod Kept
+pub mod Rules
+pub mod Sequences
+pub mod Witness

@@ -1,0 +1,54 @@
+-- A vector by fields moves a session as the rule says: from the last vector's end, and to a session of the same kind. Assumes nothing.
+use mathlib.Core.Path.{_≡_, sym, ap, ap₂, _∙_}
+use mathlib.Core.Bool.{Bool, false}
+use mathlib.Core.List.{List}
+use Prim.Native.Nat.{ℕ, _<_}
+use native.Mathlib.Omega.{arith}
+use lib.Dec.{lit<}
+use lib.ListN.{getD}
+use Rattle.lists.specs.Listed.{listed}
+use Rattle.lists.proofs.Listed.{listed-at}
+use Rattle.word.specs.Word.{bit, wordOf}
+use Rattle.word.proofs.Words.{bit-word}
+use Rattle.rule.specs.Net.{Net}
+use Rattle.rule.specs.Rule.{value, AtRest}
+use Rattle.rule.proofs.Values.{constant-is}
+use Rattle.rule.proofs.Rests.{ends-at-rest}
+use Rattle.card.specs.declared.Session.{Session}
+use Rattle.card.specs.Session.{cardOf, resting}
+use Rattle.card.specs.Held.{HasCard}
+use Rattle.card.proofs.Kept.{card-fits, card-level}
+use Rattle.session.specs.Good.{histories, Rested}
+use Rattle.session.specs.Fields.{passed, startAt}
+use Rattle.session.specs.Moves.{ends, movedBy}
+use Rattle.session.proofs.States.{rest-same}
+use Rattle.session.proofs.Held.{session-pass}
+
+-- a net's word in the histories
+pub history-at : (c : List Net) (before new : ℕ → Bool) (n t : ℕ) → n < 256 → t < 64 → bit (getD (histories c before new) n 0) t ≡ value c before new n t
+unfolding histories
+history-at c before new n t l b = ap (λ w. bit w t) (listed-at (λ m. wordOf 64 (value c before new m)) 256 n 0 l) ∙ bit-word 64 (value c before new n) t b
+
+module _ (s : Session) (h : HasCard s) (r : Rested s) where
+  abbrev c : List Net
+  c = cardOf s
+
+  -- "The value at 63 is the next before value."
+  pub ends-are : (n : ℕ) → n < 256 → ends s n ≡ value c (r .old) (r .new) n 63
+  unfolding ends
+  ends-are n l = ap (λ ws. bit (getD ws n 0) 63) (r .words-are) ∙ history-at c (r .old) (r .new) n 63 l (lit< tt)
+
+  -- so each vector starts settled
+  pub ends-calm : AtRest c (ends s)
+  ends-calm =
+      let few = card-fits s h .fits .few in
+      rest-same c (h .accepted .named) (λ n. value c (r .old) (r .new) n 63) (ends s) (λ n l. sym (ends-are n (omega arith)))
+      (ends-at-rest c (h .accepted .free) (card-fits s h .pinned) (r .old) (r .new) 63 (card-level s h))
+
+  -- the before values, and the fields along the gates, are what a vector leaves
+  pub fields-move : (values b : List Bool) (start words : List ℕ) → b ≡ listed (λ n. bit (getD (s .words) n 0) 63) 256 → start ≡ listed (startAt (s .kinds) values b) 256
+      → words ≡ passed b (s .types) (s .counts) (s .places) start (listed (λ i. getD (s .order) i 0) (s .gates))
+      → resting s (s .rested) b words ≡ movedBy s (λ n. getD values n false)
+  unfolding movedBy ends
+  fields-move values b start words eb es ew =
+      ap₂ (resting s (s .rested)) eb (session-pass s h (ends s) values b start words (λ n k l e. ends-are n l ∙ constant-is c (r .old) (r .new) n 63 k e) eb es ew)

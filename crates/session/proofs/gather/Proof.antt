@@ -1,0 +1,110 @@
+-- `session::gather` meets its contract. The loop's invariant: the first j places have the first j pins' words. The measure is what is left
+-- of the pins. Assumes nothing.
+use mathlib.Core.Path.{_≡_, ap, _∙_}
+use mathlib.Core.List.{List}
+use Prim.Native.Nat.{ℕ, _+_, _-_, _*_, _≤_}
+use native.Mathlib.Omega.{arith}
+use lib.ListN.{getD}
+use borrow.Author.Needs.{needs}
+use Rattle.lists.specs.Listed.{listed, upto}
+use Rattle.rule.specs.Net.{atPin}
+use Rattle.wiring.proofs.Pins.{pin-fitting}
+use Rattle.session.specs.Fields.{pinWord}
+use Rattle.session.proofs.Fills.{fill-none, fill-more}
+use Rattle.session.proofs.Fields.{gathered}
+use Rattle.session.proofs.gather.Statement.{statement}
+use Rattle.session.proofs.gather.Tie as tie
+
+abbrev pin : List ℕ → List ℕ → ℕ → ℕ → ℕ
+pin words places g i = pinWord words (getD places (g * 8 + i) 0)
+
+abbrev Inv-loop : tie.InvT-loop
+Inv-loop words counts places n g count «open» out₀ j₀ out j = (j ≤ count) × (count ≤ 8) × (out ≡ listed (upto (pin words places g) (λ (i : ℕ). 0) j) 8)
+
+abbrev μ-loop : tie.MeasureT-loop
+μ-loop words counts places n g count «open» out₀ j₀ out j = count - j
+
+element-copy-out-wide : tie.Need-element-copy-out-wide Inv-loop μ-loop
+element-copy-out-wide c = search needs
+
+wide-requires : tie.Need-wide-requires Inv-loop μ-loop
+wide-requires c κs = search needs
+
+open-word-requires : tie.Need-open-word-requires Inv-loop μ-loop
+open-word-requires c κs = search needs
+
+loop-holds : tie.Need-loop-holds Inv-loop μ-loop
+loop-holds c =
+    let s = c .before .before .before in
+    let e = c .before .wide .ensures in
+    (omega arith, omega (arith, s .pre .0 .narrow (s .args .g)), fill-none (pin (s .args .words .now) (s .args .places .now) (s .args .g)) 0 8)
+
+mul-at-pin : tie.Need-mul-at-pin Inv-loop μ-loop
+mul-at-pin c = search needs
+
+add-at-pin : tie.Need-add-at-pin Inv-loop μ-loop
+add-at-pin c = search needs
+
+mul-at-pin-2 : tie.Need-mul-at-pin-2 Inv-loop μ-loop
+mul-at-pin-2 c = search needs
+
+element-copy-out-at-pin : tie.Need-element-copy-out-at-pin Inv-loop μ-loop
+element-copy-out-at-pin c = search needs
+
+at-pin-requires : tie.Need-at-pin-requires Inv-loop μ-loop
+at-pin-requires c κs =
+    let s = c .before .before .before .before .before .before in
+    let e = c .before .before .before .before .wide .ensures in
+    pin-fitting (s .args .counts .now) (s .args .places .now) (s .args .n) (s .args .g) (c .before .before .loop .j) (s .pre .0) (s .pre .1 .0) (omega arith)
+
+mul-out : tie.Need-mul-out Inv-loop μ-loop
+mul-out c = search needs
+
+array-write-out : tie.Need-array-write-out Inv-loop μ-loop
+array-write-out c = search needs
+
+add-j : tie.Need-add-j Inv-loop μ-loop
+add-j c = search needs
+
+loop-less : tie.Need-loop-less Inv-loop μ-loop
+loop-less c = search needs
+
+loop-again : tie.Need-loop-again Inv-loop μ-loop
+loop-again c =
+    let s = c .before .before .before .before .before .before .before in
+    let l = c .before .before .before .loop in
+    let p = getD (s .args .places .now) (s .args .g * 8 + l .j) 0 in (
+      omega arith,
+      omega arith,
+      fill-more (pin (s .args .words .now) (s .args .places .now) (s .args .g)) 0 8 (l .j) (l .out) (c .at-pin .result) (omega arith) (l .inv .2)
+          (c .at-pin .ensures ∙ ap (λ loose. atPin loose (λ m. getD (s .args .words .now) m 0) p) (c .before .before .before .before .open-word .ensures)),
+    )
+
+returns : tie.Need-returns Inv-loop μ-loop
+returns c =
+    let s = c .before .before .before .before .before in
+    let l = c .before .loop in
+    let e = c .before .before .before .wide .ensures in
+    gathered (s .args .words .now) (s .args .counts .now) (s .args .places .now) (l .out) (s .args .g) (l .j) (omega arith) (omega arith) (l .inv .2)
+
+pub gather-spec : {M : Type 1} → statement M
+gather-spec =
+    tie.close
+    (tie.spec
+    Inv-loop
+    μ-loop
+    element-copy-out-wide
+    wide-requires
+    open-word-requires
+    loop-holds
+    mul-at-pin
+    add-at-pin
+    mul-at-pin-2
+    element-copy-out-at-pin
+    at-pin-requires
+    mul-out
+    array-write-out
+    add-j
+    loop-less
+    loop-again
+    returns)

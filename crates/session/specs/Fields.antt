@@ -1,0 +1,39 @@
+-- Bit-fields: a gate's field of its pins' words, a pass along an order of the gates, and where it starts. Assumes nothing.
+use mathlib.Core.Bool.{Bool, false, cond}
+use mathlib.Core.List.{List, map}
+use Prim.Native.Nat.{ℕ, _<_}
+use lib.Dec.{eqb}
+use lib.ListN.{getD}
+use Rattle.lists.specs.Listed.{listed}
+use Rattle.word.specs.Word.{bit, isOne, wordOf, movedUp}
+use Rattle.gate.specs.Gate.{gate as gateFn}
+use Rattle.rule.specs.Net.{openValue, atPin}
+use Rattle.rule.specs.Run.{run}
+use Rattle.wiring.specs.Layout.{pinsAt}
+use Rattle.session.specs.Inputs.{isInputKind}
+
+-- what a gate needs of the arrays
+pub record Gates (types counts : List ℕ) (g : ℕ) : Type 0 where
+  pub net : g < 256
+  pub type : getD types g 0 < 8
+  pub pinned : 0 < getD counts g 0
+
+-- "A gate's word is the function of its pins' words, moved up by one, with the before value in bit 0."
+unfoldable pub fieldAt : List Bool → List ℕ → ℕ → List ℕ → ℕ
+fieldAt before types g ws = wordOf 64 (movedUp (getD before g false) (λ t. gateFn (getD types g 0) (map (λ w. bit w t) ws)))
+
+-- the word that a pin reads: an open one has its value at every time
+abbrev pub pinWord : List ℕ → ℕ → ℕ
+pinWord words p = atPin (wordOf 64 (λ t. openValue)) (λ m. getD words m 0) p
+
+-- what a pass along an order of the gates leaves
+unfoldable pub passed : List Bool → List ℕ → List ℕ → List ℕ → List ℕ → List ℕ → List ℕ
+passed before types counts places words order = listed (run eqb (pinsAt counts places) (fieldAt before types) (pinWord words) order) 256
+
+-- ahead of a pass: "inputs take the new value at time 0 in every bit"; what does not move has its before value in every bit
+unfoldable pub startAt : List ℕ → List Bool → List Bool → ℕ → ℕ
+startAt kinds values before n = wordOf 64 (λ t. cond (isInputKind (getD kinds n 0)) (getD values n false) (getD before n false))
+
+-- a constant's value; a net of another kind has none
+abbrev pub constantAt : ℕ → ℕ → Bool
+constantAt kind ty = cond (eqb kind 2) (isOne ty) false

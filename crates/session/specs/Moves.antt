@@ -1,0 +1,51 @@
+-- Rest and a vector by fields: what they leave, for every session and every vector. Assumes nothing.
+use mathlib.Core.Bool.{Bool, true, false, cond}
+use mathlib.Core.List.{List}
+use Prim.Native.Nat.{ℕ}
+use lib.ListN.{getD}
+use Rattle.lists.specs.Listed.{listed}
+use Rattle.word.specs.Word.{bit, wordOf}
+use Rattle.rule.specs.Net.{Net}
+use Rattle.rule.specs.Rule.{value}
+use Rattle.rule.specs.declared.Refusal.{Refusal}
+use Rattle.rule.specs.declared.Refusal.the-variants.{NotReady}
+use Rattle.rule.specs.declared.Answer.the-variants.{Done, Refused}
+use Rattle.wiring.specs.declared.Verdict.{Verdict}
+use Rattle.wiring.specs.declared.Verdict.the-variants.{Refused as Faulty, Passed}
+use Rattle.card.specs.declared.Session.{Session}
+use Rattle.card.specs.Session.{cardOf, resting}
+use Rattle.session.specs.declared.Moved.{Moved}
+use Rattle.session.specs.Good.{histories}
+use Rattle.session.specs.Inputs.{given, vectorFits}
+
+abbrev pub refusedMove : Session → Refusal → Moved
+refusedMove s why = record { answer = Refused why; session = s }
+
+-- done with a count, or refused for its vector
+abbrev pub moving : Session → Verdict → ℕ → Session → Moved
+moving s (Faulty why) count next = refusedMove s why
+moving s Passed count next = record { answer = Done count; session = next }
+
+-- "The value at 63 is the next before value."
+unfoldable pub ends : Session → ℕ → Bool
+ends s n = bit (getD (s .words) n 0) 63
+
+-- a vector moves a session: the histories are the rule's, from the last vector's end
+unfoldable pub movedBy : Session → (ℕ → Bool) → Session
+movedBy s new = resting s (s .rested) (listed (ends s) 256) (histories (cardOf s) (ends s) new)
+
+-- "Vector by either engine: 12, 10, 11."
+unfoldable pub vectorOf : Session → List ℕ → Moved
+vectorOf s v = cond (s .rested) (moving s (vectorFits (s .inputs) v) 0 (movedBy s (given (s .kinds) v))) (refusedMove s NotReady)
+
+-- the settled value of every net: what it has at time 63, from any start
+unfoldable pub settled : List Net → (ℕ → Bool) → ℕ → Bool
+settled c new n = value c (λ m. false) new n 63
+
+-- "After a rest the history is flat and equals the before values. A second rest starts afresh."
+unfoldable pub restedBy : Session → (ℕ → Bool) → Session
+restedBy s new = resting s true (listed (settled (cardOf s) new) 256) (listed (λ n. wordOf 64 (λ t. settled (cardOf s) new n)) 256)
+
+-- "Rest: 12 (card only), 10, 11."
+unfoldable pub restOf : Session → List ℕ → Moved
+restOf s v = cond (s .loaded) (moving s (vectorFits (s .inputs) v) 0 (restedBy s (given (s .kinds) v))) (refusedMove s NotReady)

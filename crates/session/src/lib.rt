@@ -1,0 +1,347 @@
+// A card at rest, and a vector by fields.
+ghost use mathlib.Core.Path.{_≡_};
+ghost use mathlib.Core.Bool.{true, false, cond};
+ghost use mathlib.Core.List.{map};
+ghost use Prim.Native.Nat.{ℕ, _<_, _≤_};
+ghost use lib.ListN.{length, getD};
+ghost use Rattle.lists.specs.Entries.{every};
+ghost use Rattle.lists.specs.Listed.{listed};
+ghost use Rattle.word.specs.Word.{bit, wordOf};
+ghost use Rattle.rule.specs.Net.{openValue};
+ghost use Rattle.wiring.specs.Layout.{pinsAt};
+ghost use Rattle.wiring.specs.Wires.{Wires, Fitting};
+ghost use Rattle.card.specs.Session.{resting};
+ghost use Rattle.session.specs.Good.{Good};
+ghost use Rattle.session.specs.Inputs.{isInputKind, byteFits, rank, given, inputsRead};
+ghost use Rattle.session.specs.Fields.{Gates, fieldAt, pinWord, passed, startAt, constantAt};
+ghost use Rattle.session.specs.Moves.{refusedMove, movedBy, vectorOf, restedBy, restOf};
+use card::Session;
+use rule::Answer;
+use rule::Refusal;
+use wiring::Verdict;
+
+// What an operation that moves a session hands back.
+pub struct Moved {
+    pub answer: Answer,
+    pub session: Session,
+}
+
+pub fn refused(s: Session, why: Refusal) -> Moved
+    ensures { λ r. ⌜ r ≡ refusedMove s why ⌝ }
+{
+    Moved {
+        answer: Answer::Refused(why),
+        session: s,
+    }
+}
+
+// The inputs' values that a vector gives, net by net, or why it is refused.
+pub struct Inputs {
+    pub verdict: Verdict,
+    pub values: [bool; 256],
+}
+
+// Whether every byte is 0 or 1.
+fn bytes_fit(v: &[u8]) -> bool
+    ensures { λ r. ⌜ r ≡ every byteFits (now (v .entry)) ⌝ }
+{
+    let mut i: usize = 0;
+    while i < v.len() {
+        if 1 < v[i] {
+            return false;
+        }
+        i += 1;
+    }
+    true
+}
+
+// The inputs' values: input j's is byte j.
+fn values_of<'a>(kinds: &'a [u8; 256], v: &'a [u8]) -> [bool; 256]
+    requires { ⌜ length (now v) ≡ rank (now kinds) 256 ⌝ }
+    ensures { λ r. ⌜ r ≡ listed (given (now (kinds .entry)) (now (v .entry))) 256 ⌝ }
+{
+    let mut values = [false; 256];
+    let mut j: usize = 0;
+    let mut n: usize = 0;
+    while n < 256 {
+        if kinds[n] == 1 {
+            values[n] = v[j] != 0;
+            j += 1;
+        }
+        n += 1;
+    }
+    values
+}
+
+// A vector read: 10, 11, or the inputs' values.
+pub fn read_inputs<'a>(kinds: &'a [u8; 256], inputs: usize, v: &'a [u8]) -> Inputs
+    requires { ⌜ inputs ≡ rank (now kinds) 256 ⌝ }
+    ensures { λ r. ⌜ r ≡ inputsRead (now (kinds .entry)) inputs (now (v .entry)) ⌝ }
+{
+    if v.len() != inputs {
+        return Inputs {
+            verdict: Verdict::Refused(Refusal::VectorLength),
+            values: [false; 256],
+        };
+    }
+    if !bytes_fit(v) {
+        return Inputs {
+            verdict: Verdict::Refused(Refusal::VectorByte),
+            values: [false; 256],
+        };
+    }
+    let values = values_of(kinds, v);
+    Inputs {
+        verdict: Verdict::Passed,
+        values,
+    }
+}
+
+// The word of an open pin: its value at every time.
+pub fn open_word() -> u64
+    ensures { λ r. ⌜ r ≡ wordOf 64 (λ t. openValue) ⌝ }
+{
+    word::spread(rule::open_value())
+}
+
+// The words of the pins of gate g.
+fn gather<'a>(
+    words: &[u64; 256],
+    counts: &'a [u8; 256],
+    places: &'a [u16; 2048],
+    n: usize,
+    g: usize,
+) -> [u64; 8]
+    requires { ⌜ Wires (now counts) (now places) n ⌝ }
+    requires { ⌜ Fitting (now counts) (now places) n ⌝ }
+    requires { ⌜ g < 256 ⌝ }
+    ensures { λ r. ⌜ listed (λ i. getD r i 0) (getD (now (counts .entry)) g 0) ≡ map (pinWord (now (words .entry))) (pinsAt (now (counts .entry)) (now (places .entry)) g) ⌝ }
+{
+    let count = wiring::wide(counts[g]);
+    let open = open_word();
+    let mut out = [0u64; 8];
+    let mut j: usize = 0;
+    while j < count {
+        out[j] = wiring::at_pin(words, places[g * 8 + j], open);
+        j += 1;
+    }
+    out
+}
+
+// The field of gate g: its word of its pins' words, moved up by one, with its before value in bit 0.
+fn field_of<'a>(
+    words: &[u64; 256],
+    before: &'a [bool; 256],
+    types: &'a [u8; 256],
+    counts: &'a [u8; 256],
+    places: &'a [u16; 2048],
+    n: usize,
+    g: usize,
+) -> u64
+    requires { ⌜ Wires (now counts) (now places) n ⌝ }
+    requires { ⌜ Fitting (now counts) (now places) n ⌝ }
+    requires { ⌜ Gates (now types) (now counts) g ⌝ }
+    ensures { λ r. ⌜ r ≡ fieldAt (now (before .entry)) (now (types .entry)) g (map (pinWord (now (words .entry))) (pinsAt (now (counts .entry)) (now (places .entry)) g)) ⌝ }
+{
+    let pins = gather(words, counts, places, n, g);
+    gate::field(
+        wiring::wide(types[g]),
+        &pins,
+        wiring::wide(counts[g]),
+        before[g],
+    )
+}
+
+// The fields of the gates, along their order.
+fn pass<'a>(
+    words: &mut [u64; 256],
+    before: &'a [bool; 256],
+    types: &'a [u8; 256],
+    counts: &'a [u8; 256],
+    places: &'a [u16; 2048],
+    n: usize,
+    order: &'a [u16; 256],
+    gates: usize,
+)
+    requires { ⌜ Wires (now counts) (now places) n ⌝ }
+    requires { ⌜ Fitting (now counts) (now places) n ⌝ }
+    requires { ⌜ (gates ≤ 256) × ((i : ℕ) → i < gates → Gates (now types) (now counts) (getD (now order) i 0)) ⌝ }
+    requires { ⌜ length (now words) ≡ 256 ⌝ }
+    ensures { λ r. ⌜ now (words .exit) ≡ passed (now (before .entry)) (now (types .entry)) (now (counts .entry)) (now (places .entry)) (now (words .entry)) (listed (λ i. getD (now (order .entry)) i 0) gates) ⌝ }
+{
+    let mut i: usize = 0;
+    while i < gates {
+        let g = wiring::wide16(order[i]);
+        words[g] = field_of(words, before, types, counts, places, n, g);
+        i += 1;
+    }
+}
+
+// The word that net n has ahead of a pass.
+fn start_word(kind: u8, value: bool, before: bool) -> u64
+    ensures { λ r. ⌜ r ≡ wordOf 64 (λ t. cond (isInputKind kind) value before) ⌝ }
+{
+    if kind == 1 {
+        word::spread(value)
+    } else {
+        word::spread(before)
+    }
+}
+
+// The words ahead of a pass: the inputs' new values, and the before values of all that does not move.
+pub fn start<'a>(
+    kinds: &'a [u8; 256],
+    values: &'a [bool; 256],
+    before: &'a [bool; 256],
+) -> [u64; 256]
+    ensures { λ r. ⌜ r ≡ listed (startAt (now (kinds .entry)) (now (values .entry)) (now (before .entry))) 256 ⌝ }
+{
+    let mut words = [0u64; 256];
+    let mut n: usize = 0;
+    while n < 256 {
+        words[n] = start_word(kinds[n], values[n], before[n]);
+        n += 1;
+    }
+    words
+}
+
+// The values at time 63.
+pub fn tops(words: &[u64; 256]) -> [bool; 256]
+    ensures { λ r. ⌜ r ≡ listed (λ n. bit (getD (now (words .entry)) n 0) 63) 256 ⌝ }
+{
+    let mut out = [false; 256];
+    let mut n: usize = 0;
+    while n < 256 {
+        let w = word::PcSet { word: words[n] };
+        out[n] = w.has(63);
+        n += 1;
+    }
+    out
+}
+
+// A word a net, its value at every time.
+fn flats(values: &[bool; 256]) -> [u64; 256]
+    ensures { λ r. ⌜ r ≡ listed (λ n. wordOf 64 (λ t. getD (now (values .entry)) n false)) 256 ⌝ }
+{
+    let mut out = [0u64; 256];
+    let mut n: usize = 0;
+    while n < 256 {
+        out[n] = word::spread(values[n]);
+        n += 1;
+    }
+    out
+}
+
+// The values that constants have, net by net.
+fn constants_of<'a>(kinds: &'a [u8; 256], types: &'a [u8; 256]) -> [bool; 256]
+    ensures { λ r. ⌜ r ≡ listed (λ n. constantAt (getD (now (kinds .entry)) n 0) (getD (now (types .entry)) n 0)) 256 ⌝ }
+{
+    let mut out = [false; 256];
+    let mut n: usize = 0;
+    while n < 256 {
+        if kinds[n] == 2 {
+            out[n] = types[n] != 0;
+        }
+        n += 1;
+    }
+    out
+}
+
+// The session with another rest, before values and words.
+pub fn with_words(s: Session, rested: bool, before: [bool; 256], words: [u64; 256]) -> Session
+    ensures { λ r. ⌜ r ≡ resting s rested before words ⌝ }
+{
+    let mut next = s;
+    next.rested = rested;
+    next.before = before;
+    next.words = words;
+    next
+}
+
+// A vector run by fields, from the inputs' values: the last values at 63 are the before values.
+pub fn run_fields(s: Session, values: &[bool; 256]) -> Session
+    requires { ⌜ Good s ⌝ }
+    requires { ⌜ s .rested ≡ true ⌝ }
+    ensures { λ r. ⌜ r ≡ movedBy s (λ n. getD (now (values .entry)) n false) ⌝ }
+{
+    let before = tops(&s.words);
+    let mut words = start(&s.kinds, values, &before);
+    pass(
+        &mut words,
+        &before,
+        &s.types,
+        &s.counts,
+        &s.places,
+        s.nets,
+        &s.order,
+        s.gates,
+    );
+    with_words(s, s.rested, before, words)
+}
+
+// Every net at its settled value for the inputs' values.
+fn settle(s: Session, values: &[bool; 256]) -> Session
+    requires { ⌜ Good s ⌝ }
+    requires { ⌜ s .loaded ≡ true ⌝ }
+    ensures { λ r. ⌜ r ≡ restedBy s (λ n. getD (now (values .entry)) n false) ⌝ }
+{
+    let constants = constants_of(&s.kinds, &s.types);
+    let mut words = start(&s.kinds, values, &constants);
+    pass(
+        &mut words,
+        &constants,
+        &s.types,
+        &s.counts,
+        &s.places,
+        s.nets,
+        &s.order,
+        s.gates,
+    );
+    let before = tops(&words);
+    let flat = flats(&before);
+    with_words(s, true, before, flat)
+}
+
+// A rest vector.
+pub fn rest(s: Session, v: &[u8]) -> Moved
+    requires { ⌜ Good s ⌝ }
+    ensures { λ r. ⌜ r ≡ restOf s (now (v .entry)) ⌝ }
+{
+    if !s.loaded {
+        return refused(s, Refusal::NotReady);
+    }
+    let read = read_inputs(&s.kinds, s.inputs, v);
+    let verdict = read.verdict;
+    match verdict {
+        Verdict::Refused(why) => refused(s, why),
+        Verdict::Passed => {
+            let next = settle(s, &read.values);
+            Moved {
+                answer: Answer::Done(0),
+                session: next,
+            }
+        }
+    }
+}
+
+// A vector by fields.
+pub fn vector(s: Session, v: &[u8]) -> Moved
+    requires { ⌜ Good s ⌝ }
+    ensures { λ r. ⌜ r ≡ vectorOf s (now (v .entry)) ⌝ }
+{
+    if !s.rested {
+        return refused(s, Refusal::NotReady);
+    }
+    let read = read_inputs(&s.kinds, s.inputs, v);
+    let verdict = read.verdict;
+    match verdict {
+        Verdict::Refused(why) => refused(s, why),
+        Verdict::Passed => {
+            let next = run_fields(s, &read.values);
+            Moved {
+                answer: Answer::Done(0),
+                session: next,
+            }
+        }
+    }
+}
