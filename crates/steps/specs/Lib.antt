@@ -1,0 +1,3 @@
+pub mod Variables
+pub mod Listing
+pub mod Vector
