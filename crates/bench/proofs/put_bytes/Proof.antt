@@ -1,0 +1,104 @@
+-- `bench::put_bytes` meets its contract. The loop's invariant: the first e bytes are those of the first e steps, the rest is as it was. The
+-- measure is what is left of the list. Assumes nothing.
+use mathlib.Core.Path.{_≡_, ap, _∙_}
+use Prim.Native.Nat.{_-_, _≤_, _<_}
+use native.Mathlib.Omega.{arith}
+use borrow.Author.Needs.{needs}
+use Rattle.history.specs.Filled.{filled}
+use Rattle.history.proofs.Fills.{fill-none, fill-turn, fill-keeps}
+use Rattle.bench.specs.Bench.{byteIn}
+use Rattle.bench.proofs.Marking.{byte-at}
+use Rattle.bench.proofs.put_bytes.Statement.{statement}
+use Rattle.bench.proofs.put_bytes.Tie as tie
+
+abbrev Inv-loop : tie.InvT-loop
+Inv-loop vars nets times done total room₀ e₀ room e = (e ≤ total) × (room ≡ filled (byteIn vars nets times done) e room₀)
+
+abbrev μ-loop : tie.MeasureT-loop
+μ-loop vars nets times done total room₀ e₀ room e = total - e
+
+-- a step's net is a place of the arrays
+placed : (c : tie.After-step-byte-arg Inv-loop μ-loop) → c .before .wide16 .result < 256
+placed c =
+    let e = c .before .wide16 .ensures in
+    omega (arith, c .before .before .before .before .before .before .pre .2 (c .before .before .before .before .loop .e) (omega arith))
+
+loop-holds : tie.Need-loop-holds Inv-loop μ-loop
+loop-holds c = (omega arith, fill-none _ _)
+
+mul-wide16 : tie.Need-mul-wide16 Inv-loop μ-loop
+mul-wide16 c = search needs
+
+element-copy-out-wide16 : tie.Need-element-copy-out-wide16 Inv-loop μ-loop
+element-copy-out-wide16 c = search needs
+
+wide16-requires : tie.Need-wide16-requires Inv-loop μ-loop
+wide16-requires c κs = search needs
+
+element-copy-out-step-byte : tie.Need-element-copy-out-step-byte Inv-loop μ-loop
+element-copy-out-step-byte c = search needs
+
+mul-step-byte : tie.Need-mul-step-byte Inv-loop μ-loop
+mul-step-byte c = let h = placed c in search needs
+
+element-copy-out-step-byte-2 : tie.Need-element-copy-out-step-byte-2 Inv-loop μ-loop
+element-copy-out-step-byte-2 c = placed c
+
+element-copy-out-narrow : tie.Need-element-copy-out-narrow Inv-loop μ-loop
+element-copy-out-narrow c = search needs
+
+narrow-requires : tie.Need-narrow-requires Inv-loop μ-loop
+narrow-requires c κs = search needs
+
+step-byte-requires : tie.Need-step-byte-requires Inv-loop μ-loop
+step-byte-requires c κs = search needs
+
+slice-write-room : tie.Need-slice-write-room Inv-loop μ-loop
+slice-write-room c =
+    let l = c .before .before .before .before .before .before .before .before .loop in
+    let s = c .before .before .before .before .before .before .before .before .before .before in
+    omega (arith, fill-keeps (byteIn (s .args .vars .now) (s .args .nets .now) (s .args .times .now) (s .args .done .now)) (s .args .room .now) (l .e) (l .room) (l .inv .1))
+
+add-e : tie.Need-add-e Inv-loop μ-loop
+add-e c = search needs
+
+loop-less : tie.Need-loop-less Inv-loop μ-loop
+loop-less c = search needs
+
+loop-again : tie.Need-loop-again Inv-loop μ-loop
+loop-again c =
+    let l = c .before .before .before .before .before .before .before .before .loop in
+    let s = c .before .before .before .before .before .before .before .before .before .before in
+    (omega arith, fill-turn _ (s .args .room .now) (l .e) (c .step-byte .result) (l .room) (l .inv .1) (byte-at (s .args .vars .now) (s .args .nets .now) (s .args .times .now) (s .args .done .now) (l .e) _ _ _ (c .before .before .before .before .before .wide16 .ensures) (c .before .narrow .ensures) (c .step-byte .ensures)) (omega arith))
+
+same-length : tie.Need-same-length Inv-loop μ-loop
+same-length c = fill-keeps _ (c .before .before .before .args .room .now) (c .before .loop .e) (c .before .loop .room) (c .before .loop .inv .1)
+
+returns : tie.Need-returns Inv-loop μ-loop
+returns c =
+    let s = c .before .before .before in
+    let e : c .before .loop .e ≡ s .args .total = omega arith in
+    c .before .loop .inv .1 ∙ ap (λ k. filled (byteIn (s .args .vars .now) (s .args .nets .now) (s .args .times .now) (s .args .done .now)) k (s .args .room .now)) e
+
+pub put-bytes-spec : {M : Type 1} → statement M
+put-bytes-spec =
+    tie.close
+    (tie.spec
+    Inv-loop
+    μ-loop
+    loop-holds
+    mul-wide16
+    element-copy-out-wide16
+    wide16-requires
+    element-copy-out-step-byte
+    mul-step-byte
+    element-copy-out-step-byte-2
+    element-copy-out-narrow
+    narrow-requires
+    step-byte-requires
+    slice-write-room
+    add-e
+    loop-less
+    loop-again
+    same-length
+    returns)

@@ -1,0 +1,4 @@
+pub mod Orders
+pub mod Ready
+pub mod Bench
+pub mod Allowed
