@@ -2,8 +2,9 @@
 // where empty; a lent room is given by its length, and every entry of it is 170 before the call. A line that is none of these answers `?`
 // and changes nothing.
 //
-//     load HEX | rest HEX | vector HEX
-//     history WORDS BEFORES FLAGS | net N | trace N TIME ROOM
+//     load HEX | rest HEX | vector HEX | steps HEX
+//     history WORDS BEFORES FLAGS | list NETS TIMES | net N | trace N TIME ROOM
+//     bench HEX ORDER K ROOM
 mod answers;
 mod operations;
 
@@ -17,7 +18,9 @@ use drill_text::Command;
 use libc::STDIN_FILENO;
 use libc::STDOUT_FILENO;
 use operations::Move;
+use operations::bench_line;
 use operations::history_line;
+use operations::list_line;
 use operations::move_line;
 use operations::net_line;
 use operations::trace_line;
@@ -38,6 +41,12 @@ fn answer(session: Session, line: &[u8], bytes: &mut [u8], out: &mut [u8; 8192],
         Command::Load => move_line(Move::Load, session, line, bytes, out, at),
         Command::Rest => move_line(Move::Rest, session, line, bytes, out, at),
         Command::Vector => move_line(Move::Vector, session, line, bytes, out, at),
+        Command::Steps => move_line(Move::Steps, session, line, bytes, out, at),
+        Command::Bench(k, room) => bench_line(session, line, bytes, k, room, out, at),
+        Command::List(a, b) => {
+            let end = list_line(session, a, b, out, at);
+            Turn { session, at: end }
+        }
         Command::History(a, b, c) => {
             let end = history_line(session, a, b, c, out, at);
             Turn { session, at: end }

@@ -28,6 +28,7 @@ pub enum Move {
     Load,
     Rest,
     Vector,
+    Steps,
 }
 
 // A card taken, or refused.
@@ -53,10 +54,11 @@ fn moved(how: Move, session: Session, s: &[u8]) -> Moved
         Move::Load => load(session, s),
         Move::Rest => session::rest(session, s),
         Move::Vector => session::vector(session, s),
+        Move::Steps => steps::vector_steps(session, s),
     }
 }
 
-// load HEX, rest HEX, vector HEX
+// load HEX, rest HEX, vector HEX, steps HEX
 pub fn move_line(
     how: Move,
     session: Session,
@@ -134,6 +136,34 @@ pub fn history_line(
     )
 }
 
+// The step list into two lent rooms, and the rooms.
+fn put_list(
+    session: Session,
+    nets: &mut [u16],
+    times: &mut [u8],
+    out: &mut [u8; 8192],
+    at: usize,
+) -> usize
+    requires { ⌜ Kept session ⌝ }
+{
+    let answer = steps::list(session, nets, times);
+    let head = put_answer(out, at, answer);
+    let first = put_nets(out, head, nets);
+    put_bytes(out, first, times)
+}
+
+// list NETS TIMES
+pub fn list_line(session: Session, a: u64, b: u64, out: &mut [u8; 8192], at: usize) -> usize
+    requires { ⌜ Kept session ⌝ }
+    requires { ⌜ (a ≤ 20000) × (b ≤ 20000) ⌝ }
+{
+    let mut nets = [170u16; 20000];
+    let mut times = [170u8; 20000];
+    let i = a as usize;
+    let j = b as usize;
+    put_list(session, &mut nets[..i], &mut times[..j], out, at)
+}
+
 // A trace into a lent room, and the room.
 fn put_trace(
     session: Session,
@@ -165,4 +195,80 @@ pub fn trace_line(
     let mut nets = [170u16; 20000];
     let k = room as usize;
     put_trace(session, n, t, &mut nets[..k], out, at)
+}
+
+// A bench run into a lent room, and the room.
+fn put_bench(
+    session: Session,
+    v: &[u8],
+    order: &[u16],
+    k: u64,
+    room: &mut [u8],
+    out: &mut [u8; 8192],
+    at: usize,
+) -> Turn
+    requires { ⌜ Kept session ⌝ }
+    ensures { λ r. ⌜ Kept (r .session) ⌝ }
+{
+    let left = bench::bench(session, v, order, k, room);
+    let answer = left.answer;
+    let next = left.session;
+    let head = put_answer(out, at, answer);
+    let end = put_bytes(out, head, room);
+    Turn {
+        session: next,
+        at: end,
+    }
+}
+
+// A bench run by the order that a line's word 2 spells, put at the start of `entries`.
+fn order_line(
+    session: Session,
+    line: &[u8],
+    v: &[u8],
+    entries: &mut [u16],
+    k: u64,
+    room: &mut [u8],
+    out: &mut [u8; 8192],
+    at: usize,
+) -> Turn
+    requires { ⌜ Kept session ⌝ }
+    requires { ⌜ length (now line) ≤ 140000 ⌝ }
+    requires { ⌜ 140001 ≤ length (now entries) ⌝ }
+    ensures { λ r. ⌜ Kept (r .session) ⌝ }
+{
+    let n = drill_text::order_into(drill_text::word(line, 2), entries);
+    put_bench(session, v, &entries[..n], k, room, out, at)
+}
+
+// bench HEX ORDER K ROOM
+pub fn bench_line(
+    session: Session,
+    line: &[u8],
+    bytes: &mut [u8],
+    k: u64,
+    room: u64,
+    out: &mut [u8; 8192],
+    at: usize,
+) -> Turn
+    requires { ⌜ Kept session ⌝ }
+    requires { ⌜ length (now line) ≤ 140000 ⌝ }
+    requires { ⌜ 70000 ≤ length (now bytes) ⌝ }
+    requires { ⌜ room ≤ 20000 ⌝ }
+    ensures { λ r. ⌜ Kept (r .session) ⌝ }
+{
+    let mut entries = [0u16; 140001];
+    let mut values = [170u8; 20000];
+    let i = room as usize;
+    let n = bytes_of(line, bytes);
+    order_line(
+        session,
+        line,
+        &bytes[..n],
+        &mut entries,
+        k,
+        &mut values[..i],
+        out,
+        at,
+    )
 }

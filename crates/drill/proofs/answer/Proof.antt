@@ -34,14 +34,42 @@ move-line-requires-3 c κs =
     let start = told .before .before .before .before .before in
     (start .pre .0, (told-short _ _ _ (told .before .before .command-of .ensures) (told .enum-told3 .given .1) tt, start .pre .1))
 
+enum-told-4 : tie.Need-enum-told-4
+enum-told-4 c = search needs
+
+move-line-requires-4 : tie.Need-move-line-requires-4
+move-line-requires-4 c κs =
+    let told = c .before .before in
+    let start = told .before .before .before .before .before in
+    (start .pre .0, (told-short _ _ _ (told .before .before .command-of .ensures) (told .enum-told4 .given .1) tt, start .pre .1))
+
+enum-known-k : tie.Need-enum-known-k
+enum-known-k c = search needs
+
+bench-line-requires : tie.Need-bench-line-requires
+bench-line-requires c κs =
+    let told = c .before .before .before in
+    let start = told .before .before .before .before .before in
+    let e = told .before .before .command-of .ensures in
+    (start .pre .0, (told-short _ _ _ e (told .k .given .1) tt, (start .pre .1, told-rooms _ _ _ e (told .k .given .1))))
+
 enum-known-a : tie.Need-enum-known-a
 enum-known-a c = search needs
+
+list-line-requires : tie.Need-list-line-requires
+list-line-requires c κs =
+    let told = c .before .before in
+    let start = told .before .before .before .before .before in
+    (start .pre .0, told-rooms _ _ _ (told .before .before .command-of .ensures) (told .a .given .1))
+
+enum-known-a-2 : tie.Need-enum-known-a-2
+enum-known-a-2 c = search needs
 
 history-line-requires : tie.Need-history-line-requires
 history-line-requires c κs =
     let told = c .before .before in
     let start = told .before .before .before .before .before in
-    (start .pre .0, told-rooms _ _ _ (told .before .before .command-of .ensures) (told .a .given .1))
+    (start .pre .0, told-rooms _ _ _ (told .before .before .command-of .ensures) (told .a2 .given .1))
 
 enum-known-n : tie.Need-enum-known-n
 enum-known-n c = search needs
@@ -79,8 +107,14 @@ same-length-3 c = search needs
 returns-3 : tie.Need-returns-3
 returns-3 c = search needs
 
+same-length-4 : tie.Need-same-length-4
+same-length-4 c = search needs
+
 returns-4 : tie.Need-returns-4
 returns-4 c = search needs
+
+same-length-5 : tie.Need-same-length-5
+same-length-5 c = search needs
 
 returns-5 : tie.Need-returns-5
 returns-5 c = search needs
@@ -90,6 +124,15 @@ returns-6 c = search needs
 
 returns-7 : tie.Need-returns-7
 returns-7 c = search needs
+
+returns-8 : tie.Need-returns-8
+returns-8 c = search needs
+
+returns-9 : tie.Need-returns-9
+returns-9 c = search needs
+
+returns-10 : tie.Need-returns-10
+returns-10 c = search needs
 
 pub answer-spec : {M : Type 1} → statement M
 answer-spec =
@@ -102,7 +145,13 @@ answer-spec =
     move-line-requires-2
     enum-told-3
     move-line-requires-3
+    enum-told-4
+    move-line-requires-4
+    enum-known-k
+    bench-line-requires
     enum-known-a
+    list-line-requires
+    enum-known-a-2
     history-line-requires
     enum-known-n
     trace-line-requires
@@ -115,7 +164,12 @@ answer-spec =
     returns-2
     same-length-3
     returns-3
+    same-length-4
     returns-4
+    same-length-5
     returns-5
     returns-6
-    returns-7)
+    returns-7
+    returns-8
+    returns-9
+    returns-10)
