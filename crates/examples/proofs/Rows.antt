@@ -1,0 +1,99 @@
+-- Every row of the table holds: a test that is worked out over the whole table, and what passes it is so. Assumes nothing.
+use mathlib.Core.Path.{_≡_, refl, sym, ap₂}
+use mathlib.Core.Bool.{Bool, true, false, _&&_, true≢false}
+use mathlib.Core.List.{List, [], _∷_, map}
+use Prim.Native.Nat.{ℕ}
+use lib.Dec.{eqb}
+use lib.ListN.{length, getD, replicate}
+use borrow.Author.Tests.{eqb-true}
+use Rattle.lists.specs.Entries.{_∈_, every}
+use Rattle.lists.specs.Listed.{listed, listedFrom}
+use Rattle.lists.proofs.Bools.{and-both}
+use Rattle.lists.proofs.Tests.{every-at}
+use Rattle.word.specs.Word.{bit, wordOf}
+use Rattle.word.specs.Times.{count, greatest}
+use Rattle.gate.specs.Gate.{gate, controls, inverts, controlled}
+use Rattle.rule.specs.Net.{openPin, openValue, atPin, netAt}
+use Rattle.rule.specs.Rule.{value}
+use Rattle.rule.specs.Flag.{changes, flagOf}
+use Rattle.rule.specs.Cause.{causes}
+use Rattle.rule.specs.Chain.{pcSet}
+use Rattle.rule.specs.Level.{longest, level, depth}
+use Rattle.rule.specs.Run.{made, step, run, ready}
+use Rattle.rule.specs.Steps.{readAt as readStep, stepReads, gateOrder, netSteps, stepList}
+use Rattle.wiring.specs.Layout.{kindsOf, typesOf, countsOf, placesOf, cardIn}
+use Rattle.wiring.specs.Wired.{pinsFit, mostBack, wiredOf, setWords}
+use Rattle.records.specs.Bytes.{u16At, kindFits, typeFits, bodyFits, netRecord, recordAt, readAt}
+use Rattle.records.specs.Scan.{netMeant, scan}
+use Rattle.records.specs.Written.{netBytes, cardBytes}
+use Rattle.card.specs.declared.Session.{Session}
+use Rattle.card.specs.Session.{none, inputsOf, sessionOf, cardOf}
+use Rattle.card.specs.Load.{judged, loadOf}
+use Rattle.card.specs.Asked.{netAsked}
+use Rattle.session.specs.Fields.{startAt}
+use Rattle.session.specs.Inputs.{rank, given, vectorFits}
+use Rattle.session.specs.Good.{histories}
+use Rattle.session.specs.Moves.{ends, movedBy, vectorOf, settled, restedBy, restOf}
+use Rattle.history.specs.Told.{historyOf}
+use Rattle.history.specs.Traced.{wayBack, traceOf}
+use Rattle.steps.specs.Variables.{varsOf, wordsOf, readIn, stepIn, ran, historyOf as historyWord, historiesFrom}
+use Rattle.steps.specs.Listing.{listOf}
+use Rattle.steps.specs.Vector.{startVars, ranAlong, ranSession, stepsVectorOf}
+use Rattle.bench.specs.Orders.{entriesFit, orderReady, orderJudged}
+use Rattle.bench.specs.Bench.{notDone, benchDone, benchOf}
+use Rattle.examples.specs.Calls.{Engine, fields, steps, Call, Reply, replies}
+use Rattle.examples.specs.Table.{Line, table}
+
+-- two lists are the same, by a test of their entries
+abbrev sameBy : {A : Type 0} → (A → A → Bool) → List A → List A → Bool
+sameBy f [] [] = true
+sameBy f [] (y ∷ ys) = false
+sameBy f (x ∷ xs) [] = false
+sameBy f (x ∷ xs) (y ∷ ys) = f x y && sameBy f xs ys
+
+same-by : {A : Type 0} (f : A → A → Bool) → ((x y : A) → f x y ≡ true → x ≡ y) → (xs ys : List A) → sameBy f xs ys ≡ true → xs ≡ ys
+same-by f h [] [] e = refl
+same-by f h [] (y ∷ ys) e = absurd (true≢false (sym e))
+same-by f h (x ∷ xs) [] e = absurd (true≢false (sym e))
+same-by f h (x ∷ xs) (y ∷ ys) e = let b = and-both (f x y) _ e in ap₂ (λ a l. a ∷ l) (h x y (b .0)) (same-by f h xs ys (b .1))
+
+abbrev sameRooms : List (List ℕ) → List (List ℕ) → Bool
+sameRooms xs ys = sameBy (sameBy eqb) xs ys
+
+abbrev sameReply : Reply → Reply → Bool
+sameReply a b = eqb (a .number) (b .number) && (eqb (a .count) (b .count) && sameRooms (a .rooms) (b .rooms))
+
+reply-same : (a b : Reply) → sameReply a b ≡ true → a ≡ b
+reply-same a b e =
+    let x = and-both (eqb (a .number) (b .number)) _ e in
+    let y = and-both (eqb (a .count) (b .count)) _ (x .1) in
+    let n = eqb-true (a .number) (b .number) (x .0) in
+    let c = eqb-true (a .count) (b .count) (y .0) in
+    let r = same-by (sameBy eqb) (same-by eqb eqb-true) (a .rooms) (b .rooms) (y .1) in
+    λ i. record { number = n i; count = c i; rooms = r i }
+
+-- the calls of a row, and what they must hand back by an engine
+abbrev pub calls : List Line → List Call
+calls row = map (λ l. l .call) row
+
+abbrev pub expected : Engine → List Line → List Reply
+expected e row = map (λ l. l .reply e) row
+
+-- the test of a row: by both engines, from the empty session
+passes : Engine → List Line → Bool
+passes e row = sameBy sameReply (replies e none (calls row)) (expected e row)
+
+all-pass : every (λ row. passes fields row && passes steps row) table ≡ true
+unfolding passes table replies cardBytes netBytes u16At kindFits typeFits bodyFits netRecord recordAt readAt netMeant scan listed listedFrom loadOf judged none sessionOf wiredOf pinsFit mostBack openPin atPin netAt longest level depth gateOrder netSteps stepList pcSet setWords inputsOf count restOf vectorFits restedBy settled given rank value gate controls inverts controlled cardOf cardIn kindsOf typesOf countsOf placesOf openValue wordOf bit vectorOf movedBy histories ends historyOf flagOf changes causes wayBack traceOf netAsked listOf stepsVectorOf ranSession ranAlong startVars startAt ran stepIn readIn wordsOf varsOf historyWord historiesFrom greatest made step run ready readStep stepReads entriesFit orderReady orderJudged notDone benchDone benchOf
+all-pass = refl
+
+-- each example's sentence: the calls of its row hand back what the row says, by either engine
+pub row-holds : (row : List Line) → row ∈ table → (e : Engine) → replies e none (calls row) ≡ expected e row
+unfolding passes
+row-holds row m e =
+    let b = and-both (passes fields row) (passes steps row) (every-at (λ row. passes fields row && passes steps row) table all-pass row m) in
+    by-engine e (b .0) (b .1)
+  where
+    by-engine : (e : Engine) → passes fields row ≡ true → passes steps row ≡ true → replies e none (calls row) ≡ expected e row
+    by-engine fields f s = same-by sameReply reply-same _ _ f
+    by-engine steps f s = same-by sameReply reply-same _ _ s
