@@ -1,9 +1,8 @@
 -- `steps::run_steps` meets its contract. Assumes nothing.
-use mathlib.Core.Path.{_≡_, sym, ap, subst}
+use mathlib.Core.Path.{_≡_, sym, subst}
 use mathlib.Core.Bool.{false}
 use Prim.Native.Nat.{_≤_}
-use native.Mathlib.Omega.{arith}
-use lib.ListN.{length, getD}
+use lib.ListN.{getD}
 use Rattle.lists.specs.Listed.{listed}
 use Rattle.rule.specs.Steps.{stepList}
 use Rattle.rule.proofs.StepLists.{list-only}
