@@ -11,7 +11,6 @@ use borrow.Author.Tests.{leb-true, leb-false, le-leb, lt-leb}
 use Rattle.rule.specs.Steps.{Step, stepList}
 use Rattle.rule.specs.declared.Refusal.{Refusal}
 use Rattle.rule.specs.declared.Refusal.the-variants.{NotReady, NoRoom}
-use Rattle.rule.specs.declared.Answer.{Answer}
 use Rattle.rule.specs.declared.Answer.the-variants.{Done, Refused}
 use Rattle.card.specs.declared.Session.{Session}
 use Rattle.card.specs.Session.{cardOf}
@@ -51,13 +50,15 @@ module _ (s : Session) (room : ℕ) where
   listing-full e l = found-is true true e (le-leb (length ks) room l)
 
   -- the list stands in two arrays, whose first entries are made records
-  pub listing-made : {nets₀ times₀ nets times : List ℕ} {total : ℕ} → Holds ks nets₀ times₀ nets times total → length nets₀ ≡ 4096 → length times₀ ≡ 4096 → total ≤ 4096
-      → s .loaded ≡ true → total ≤ room → (records : List StepRecord) → records ≡ recordsIn (recordIn nets times) total (replicate 4096 blank)
+  pub listing-made : {nets₀ times₀ nets times : List ℕ} {total : ℕ} → Holds ks nets₀ times₀ nets times total → length nets₀ ≡ 4096
+      → length times₀ ≡ 4096 → total ≤ 4096 → s .loaded ≡ true → total ≤ room → (records : List StepRecord)
+      → records ≡ recordsIn (recordIn nets times) total (replicate 4096 blank)
       → record { answer = Done total; total = total; records = records } ≡ listingOf s room
   listing-made {nets₀} {times₀} {nets} {times} {total} h ln lt few loaded fits records e =
       let at : (e : ℕ) → e < total → e < length ks = λ e b. omega (arith, h .size) in
       ap (λ x. record { answer = Done total; total = total; records = x })
-      (e ∙ fills-same blank (recordIn nets times) (λ e. recordOf (stepAt ks e)) total (replicate 4096 blank) (λ e b i. record { net = held-net h ln lt few e (at e b) i; time = held-time h ln lt few e (at e b) i }))
+      (e ∙ fills-same blank (recordIn nets times) (λ e. recordOf (stepAt ks e)) total (replicate 4096 blank)
+      (λ e b i. record { net = held-net h ln lt few e (at e b) i; time = held-time h ln lt few e (at e b) i }))
       ∙ ap (λ n. record { answer = Done n; total = n; records = recordsIn (λ e. recordOf (stepAt ks e)) n (replicate 4096 blank) }) (h .size)
       ∙ sym (listing-full loaded (omega (arith, h .size)))
 
@@ -67,8 +68,12 @@ module _ (s : Session) (room : List StepRecord) where
   abbrev all : List Step
   all = stepList (cardOf s)
 
+  -- refused: the room keeps what it had
+  abbrev kept : Refusal → Answered
+  kept why = record { answer = Refused why; room = room }
+
   abbrev tested : Bool → Bool → Answered
-  tested a b = cond a (cond b (record { answer = Done (length all); room = written s room }) (record { answer = Refused NoRoom; room = room })) (record { answer = Refused NotReady; room = room })
+  tested a b = cond a (cond b (record { answer = Done (length all); room = written s room }) (kept NoRoom)) (kept NotReady)
 
   tested-is : (a b : Bool) → s .loaded ≡ a → leb (length all) (length room) ≡ b → recordsOf s room ≡ tested a b
   unfolding recordsOf
@@ -100,13 +105,15 @@ module _ (s : Session) (room : List StepRecord) where
       go true false ea eb = let l = leb-false _ _ eb in subst Ruling (sym (records-18 ea l)) (says-18 ea l)
       go true true ea eb = let l = leb-true _ _ eb in subst Ruling (sym (records-0 ea l)) (says-0 ea l)
 
-  pub records-refused : (why : Refusal) → recordsOf s room .answer ≡ Refused why
-      → ((why ≡ NotReady) × (s .loaded ≡ false)) ⊎ ((why ≡ NoRoom) × (s .loaded ≡ true) × (length room < length all))
+  abbrev pub Reason : Refusal → Type 0
+  Reason why = ((why ≡ NotReady) × (s .loaded ≡ false)) ⊎ ((why ≡ NoRoom) × (s .loaded ≡ true) × (length room < length all))
+
+  pub records-refused : (why : Refusal) → recordsOf s room .answer ≡ Refused why → (recordsOf s room .room ≡ room) × Reason why
   records-refused why e = go (recordsOf s room) records-ruled e
     where
-      go : (r : Answered) → Ruling r → r .answer ≡ Refused why → ((why ≡ NotReady) × (s .loaded ≡ false)) ⊎ ((why ≡ NoRoom) × (s .loaded ≡ true) × (length room < length all))
-      go r (says-12 l) q = inl ((cc), l)
-      go r (says-18 l m) q = inr ((cc), l, m)
+      go : (r : Answered) → Ruling r → r .answer ≡ Refused why → (r .room ≡ room) × Reason why
+      go r (says-12 l) q = (refl, inl ((cc), l))
+      go r (says-18 l m) q = (refl, inr ((cc), l, m))
       go r (says-0 l m) q = let z : _≡_ {A = ℕ} 0 1 = cc in absurd (omega arith)
 
   -- what is found is copied to the room's front
@@ -128,19 +135,20 @@ module _ (s : Session) (room : List StepRecord) where
     pub found-copied : copied (listingOf s (length room)) ≡ recordsOf s room
     found-copied = go (s .loaded) (leb (length all) (length room)) refl refl
       where
-        kept : (why : Refusal) → copied (refusedListing why) ≡ record { answer = Refused why; room = room }
-        kept why = ap (λ x. record { answer = Refused why; room = x }) (sym (fills-none blank _ room))
+        none-copied : (why : Refusal) → copied (refusedListing why) ≡ kept why
+        none-copied why = ap (λ x. record { answer = Refused why; room = x }) (sym (fills-none blank _ room))
 
         go : (a b : Bool) → s .loaded ≡ a → leb (length all) (length room) ≡ b → copied (listingOf s (length room)) ≡ recordsOf s room
-        go false b ea eb = ap copied (listing-none s (length room) ea) ∙ kept NotReady ∙ sym (records-12 ea)
-        go true false ea eb = let l = leb-false _ _ eb in ap copied (listing-short s (length room) ea l) ∙ kept NoRoom ∙ sym (records-18 ea l)
+        go false b ea eb = ap copied (listing-none s (length room) ea) ∙ none-copied NotReady ∙ sym (records-12 ea)
+        go true false ea eb = let l = leb-false _ _ eb in ap copied (listing-short s (length room) ea l) ∙ none-copied NoRoom ∙ sym (records-18 ea l)
         go true true ea eb =
             let l = leb-true _ _ eb in
             let few = card-steps s (good .card ea) in
             let size = length-replicate 4096 blank in
             ap copied (listing-full s (length room) ea l)
             ∙ ap (λ x. record { answer = Done (length all); room = x })
-            (fills-through blank (λ e. recordOf (stepAt all e)) (length all) (length all) (replicate 4096 blank) room (omega arith) (omega (arith, few, size)))
+            (fills-through blank (λ e. recordOf (stepAt all e)) (length all) (length all) (replicate 4096 blank) room (omega arith)
+            (omega (arith, few, size)))
             ∙ sym (records-0 ea l)
 
   -- What stands in the lent room
@@ -148,11 +156,13 @@ module _ (s : Session) (room : List StepRecord) where
   module _ (loaded : s .loaded ≡ true) (fits : length all ≤ length room) where
     -- entry e is step e,
     pub records-step : (e : ℕ) → e < length all → getD (recordsOf s room .room) e blank ≡ recordOf (stepAt all e)
-    records-step e l = ap (λ r. getD (r .room) e blank) (records-0 loaded fits) ∙ fills-at blank (λ e. recordOf (stepAt all e)) (length all) e room fits l
+    records-step e l =
+        ap (λ r. getD (r .room) e blank) (records-0 loaded fits) ∙ fills-at blank (λ e. recordOf (stepAt all e)) (length all) e room fits l
 
     -- and the entries past the list are kept
     pub records-keep : (e : ℕ) → length all ≤ e → getD (recordsOf s room .room) e blank ≡ getD room e blank
-    records-keep e l = ap (λ r. getD (r .room) e blank) (records-0 loaded fits) ∙ fills-past blank (λ e. recordOf (stepAt all e)) (length all) e room l
+    records-keep e l =
+        ap (λ r. getD (r .room) e blank) (records-0 loaded fits) ∙ fills-past blank (λ e. recordOf (stepAt all e)) (length all) e room l
 
 -- The two forms of the list agree: in room as long they answer the same, and name the same steps
 
@@ -172,9 +182,11 @@ module _ (s : Session) (room : List StepRecord) (nets times : List ℕ) (ln : le
     pub forms-net : getD (recordsOf s room .room) e blank .net ≡ getD (listOf s nets times .nets) e 0
     forms-net =
         ap (λ r. r .net) (records-step s room loaded fits e l)
-        ∙ sym (ap (λ r. getD (r .nets) e 0) (list-0 s nets times loaded (omega arith) (omega arith)) ∙ fills-at 0 (λ e. stepAt steps e .net) (length steps) e nets (omega arith) l)
+        ∙ sym (ap (λ r. getD (r .nets) e 0) (list-0 s nets times loaded (omega arith) (omega arith))
+        ∙ fills-at 0 (λ e. stepAt steps e .net) (length steps) e nets (omega arith) l)
 
     pub forms-time : getD (recordsOf s room .room) e blank .time ≡ getD (listOf s nets times .times) e 0
     forms-time =
         ap (λ r. r .time) (records-step s room loaded fits e l)
-        ∙ sym (ap (λ r. getD (r .times) e 0) (list-0 s nets times loaded (omega arith) (omega arith)) ∙ fills-at 0 (λ e. stepAt steps e .time) (length steps) e times (omega arith) l)
+        ∙ sym (ap (λ r. getD (r .times) e 0) (list-0 s nets times loaded (omega arith) (omega arith))
+        ∙ fills-at 0 (λ e. stepAt steps e .time) (length steps) e times (omega arith) l)

@@ -1,5 +1,5 @@
 -- Room that is filled from its front, with entries of any kind: nothing yet, one place more, and what stands in it then. Assumes nothing.
-use mathlib.Core.Path.{_≡_, refl, sym, ap, _∙_}
+use mathlib.Core.Path.{_≡_, sym, ap, _∙_}
 use mathlib.Core.List.{List}
 use Prim.Native.Nat.{ℕ, _+_, _≤_, _<_}
 use native.Mathlib.Omega.{arith}
@@ -30,6 +30,10 @@ module _ {A : Type 0} (d : A) where
   pub fills-more : (f g : ℕ → A) (n : ℕ) (room : List A) (v : A) → n < length room → ((e : ℕ) → e < n → f e ≡ g e) → v ≡ g n → set (fills f n room) n v ≡ fills g (n + 1) room
   fills-more f g n room v l h e = rw (fills-same f g n room h, e) (upto-more g (λ i. getD room i d) (length room) n l)
 
+  -- a loop's turn
+  pub fills-next : (f : ℕ → A) (i : ℕ) (room xs : List A) → xs ≡ fills f i room → i < length room → set xs i (f i) ≡ fills f (i + 1) room
+  fills-next f i room xs e l = ap (λ zs. set zs i (f i)) e ∙ upto-more f (λ j. getD room j d) (length room) i l
+
   -- what stands in it at the places filled
   pub fills-at : (f : ℕ → A) (n e : ℕ) (room : List A) → n ≤ length room → e < n → getD (fills f n room) e d ≡ f e
   fills-at f n e room l b = listed-at (upto f (λ i. getD room i d) n) (length room) e d (omega arith) ∙ rw (lt-ltb e n b)
@@ -59,8 +63,7 @@ module _ {A : Type 0} (d : A) where
       copied-length = ap length (c .1) ∙ fills-length (λ e. getD from e d) i room₀
 
       pub copied-more : i < n → n ≤ length room₀ → Copied (set room i (getD from i d)) (i + 1)
-      copied-more l b =
-          (omega arith, ap (λ xs. set xs i (getD from i d)) (c .1) ∙ fills-more (λ e. getD from e d) (λ e. getD from e d) i room₀ (getD from i d) (omega arith) (λ e b. refl) refl)
+      copied-more l b = (omega arith, fills-next (λ e. getD from e d) i room₀ room (c .1) (omega arith))
 
       pub copied-all : n ≤ i → room ≡ fills (λ e. getD from e d) n room₀
       copied-all l = let e : i ≡ n = omega (arith, c .0) in rw e at (c .1)

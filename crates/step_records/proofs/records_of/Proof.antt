@@ -1,10 +1,10 @@
 -- `step_records::records_of` meets its contract. The loop's invariant: the first i records are made. The measure is what is left of n.
 -- Assumes nothing.
-use mathlib.Core.Path.{_≡_, refl, ap, _∙_}
+use mathlib.Core.Path.{_≡_}
 use Prim.Native.Nat.{_-_, _≤_}
 use native.Mathlib.Omega.{arith}
-use lib.ListN.{length, set, replicate, length-replicate}
-use Rattle.steps.proofs.Rooms.{fills-none, fills-more}
+use lib.ListN.{replicate, length-replicate}
+use Rattle.steps.proofs.Rooms.{fills-none, fills-next}
 use Rattle.step_records.specs.Records.{blank, recordIn, recordsIn}
 use borrow.Author.Needs.{needs}
 use Rattle.step_records.proofs.records_of.Statement.{statement}
@@ -47,7 +47,7 @@ loop-again c =
     let l = c .before .before .before .loop in
     let f = recordIn (a .nets .now) (a .times .now) in
     let e = length-replicate 4096 blank in
-    (omega arith, ap (λ xs. set xs (l .i) (f (l .i))) (l .inv .1) ∙ fills-more blank f f (l .i) (replicate 4096 blank) (f (l .i)) (omega (arith, e)) (λ e b. refl) refl)
+    (omega arith, fills-next blank f (l .i) (replicate 4096 blank) (l .out) (l .inv .1) (omega (arith, e)))
 
 returns : tie.Need-returns Inv-loop μ-loop
 returns c =
