@@ -1,2 +1,2 @@
 pub mod Listings
-pub mod Locals
+pub mod Walking
