@@ -47,7 +47,7 @@ module _ (s : Session) (h : HasCard s) where
 
   -- The gates
 
-  pub few-gates : length (gateOrder c) ≤ 256
+  few-gates : length (gateOrder c) ≤ 256
   few-gates = let few = card-fits s h .fits .few in omega (arith, distinct-below (length c) (gateOrder c) (order-once c) (λ g m. out-order c g m .1))
 
   pub order-back : listed (λ i. getD (s .order) i 0) (s .gates) ≡ gateOrder c

@@ -14,11 +14,11 @@ pub struct StepRecord {
     pub time: u8,
 }
 
-// The answer to a question for the step list, and the records that go with it.
-pub struct Listing {
-    pub answer: Answer,
-    pub total: usize,
-    pub records: [StepRecord; 4096],
+// What there is to write, and the answer that goes with it.
+struct Listing {
+    answer: Answer,
+    total: usize,
+    records: [StepRecord; 4096],
 }
 
 // The first n steps that two arrays name.
