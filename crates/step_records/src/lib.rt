@@ -1,7 +1,7 @@
 // The step list as records of net and time, in a lent slice.
 ghost use mathlib.Core.Path.{_≡_};
-ghost use Prim.Native.Nat.{ℕ, _≤_};
-ghost use lib.ListN.{getD, replicate};
+ghost use Prim.Native.Nat.{_≤_};
+ghost use lib.ListN.{replicate};
 ghost use Rattle.session.specs.Good.{Good};
 ghost use Rattle.step_records.specs.Records.{blank, recordIn, recordsIn, refusedListing, listingOf, recordsOf};
 use card::Session;
