@@ -6,7 +6,7 @@ use Prim.Native.Nat.{ℕ, _+_, _*_, _^_, _≤_, _<_}
 use native.Mathlib.Omega.{arith}
 use lib.Dec.{eqb, ltb, lit<}
 use lib.ListN.{length, take, length-append}
-use lib.Seq.{sets, sets-eq, take-at}
+use lib.Seq.{sets, sets-eq, length-sets, take-at}
 use Rattle.lists.specs.Entries.{each, from}
 use Rattle.lists.proofs.Joined.{length-from, out-from}
 use Rattle.lists.specs.Entries.{_∈_}
@@ -151,3 +151,13 @@ module _ (file : List ℕ) (bytes : Bytes file) (size : length file < 2 ^ 64) wh
 pub piece-read : (p : Portion) (page : List ℕ) → length (p .text) ≤ length page → take (written p page .piece .length) (written p page .page) ≡ p .text
 unfolding written
 piece-read p page l = ap (take (length (p .text))) (sets-eq (p .text) page 0 (omega arith)) ∙ take-at (p .text) _ (length (p .text)) refl
+
+-- and the page stays as long as it was
+pub page-stays : (p : Portion) (old new : List ℕ) (r : Piece) → _≡_ {A = Written} (record { piece = r; page = new }) (written p old) → length new ≡ length old
+unfolding written
+page-stays p old new r w = ap (λ x. length (x .page)) w ∙ length-sets old 0 (p .text)
+
+-- the sheet after it is the portion's
+pub sheet-after : (p : Portion) (old new : List ℕ) (r : Piece) → _≡_ {A = Written} (record { piece = r; page = new }) (written p old) → r .sheet ≡ p .after
+unfolding written
+sheet-after p old new r w = ap (λ x. x .piece .sheet) w
