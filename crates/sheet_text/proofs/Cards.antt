@@ -27,7 +27,7 @@ use Rattle.history.specs.Told.{Told, wordAt, beforeAt, flagAt, historyOf}
 use Rattle.history.proofs.Fills.{fill-at}
 use Rattle.history.proofs.Ran.{few}
 use Rattle.history.proofs.Histories.{written, gives-0}
-use Rattle.sheet_text.specs.Lines.{netLine}
+use Rattle.sheet_text.specs.Lines.{netLine, historyLine}
 
 module _ (s : Session) (h : HasCard s) where
   abbrev c : List Net
@@ -59,13 +59,15 @@ module _ (s : Session) (h : HasCard s) where
     filled-as : _≡_ {A = Told} (record { answer = a; words = ws; befores = bs; flags = fs }) (written s none none none)
     filled-as = told ∙ gives-0 s none none none rested (record { for-words = roomy; for-befores = roomy; for-flags = roomy })
 
-    line-is : (d n : ℕ) → n < s .nets → netLine d n (getD bs n 0) (getD ws n 0) (getD fs n 0) ≡ netLine d n (val (beforeAt s n)) (wordAt s n) (flagAt s n)
-    line-is d n l =
+    line-is : (n : ℕ) → n < s .nets → netLine (depth c) n (getD bs n 0) (getD ws n 0) (getD fs n 0) ≡ historyLine s n
+    unfolding historyLine
+    line-is n l =
         let b : getD bs n 0 ≡ val (beforeAt s n) = ap (λ x. getD (x .befores) n 0) filled-as ∙ fill-at (λ m. val (beforeAt s m)) none (s .nets) n l roomy in
         let w : getD ws n 0 ≡ wordAt s n = ap (λ x. getD (x .words) n 0) filled-as ∙ fill-at (wordAt s) none (s .nets) n l roomy in
         let f : getD fs n 0 ≡ flagAt s n = ap (λ x. getD (x .flags) n 0) filled-as ∙ fill-at (flagAt s) none (s .nets) n l roomy in
-        ap₂ (λ x y. netLine d n x y (getD fs n 0)) b w ∙ ap (netLine d n (val (beforeAt s n)) (wordAt s n)) f
+        ap₂ (λ x y. netLine (depth c) n x y (getD fs n 0)) b w ∙ ap (netLine (depth c) n (val (beforeAt s n)) (wordAt s n)) f
 
-    pub lines-are : (d : ℕ) → each (λ n. netLine d n (getD bs n 0) (getD ws n 0) (getD fs n 0)) (from 0 (s .nets))
-        ≡ each (λ n. netLine d n (val (beforeAt s n)) (wordAt s n) (flagAt s n)) (from 0 (s .nets))
-    lines-are d = each-ext _ _ (from 0 (s .nets)) (λ n m. line-is d n (omega (arith, out-from 0 (s .nets) n m .1)))
+    pub lines-are : (d : ℕ) → d ≡ depth c → each (λ n. netLine d n (getD bs n 0) (getD ws n 0) (getD fs n 0)) (from 0 (s .nets)) ≡ each (historyLine s) (from 0 (s .nets))
+    lines-are d e =
+        ap (λ x. each (λ n. netLine x n (getD bs n 0) (getD ws n 0) (getD fs n 0)) (from 0 (s .nets))) e
+        ∙ each-ext (λ n. netLine (depth c) n (getD bs n 0) (getD ws n 0) (getD fs n 0)) (historyLine s) (from 0 (s .nets)) (λ n m. line-is n (omega (arith, out-from 0 (s .nets) n m .1)))

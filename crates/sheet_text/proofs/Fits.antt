@@ -7,9 +7,8 @@ use native.Mathlib.Omega.{arith}
 use lib.Dec.{eqb, ltb, lit<}
 use lib.ListN.{length, take, length-append}
 use lib.Seq.{sets, sets-eq, length-sets, take-at}
-use Rattle.lists.specs.Entries.{each, from}
+use Rattle.lists.specs.Entries.{_∈_, each, from}
 use Rattle.lists.proofs.Joined.{length-from, out-from}
-use Rattle.lists.specs.Entries.{_∈_}
 use Rattle.word.specs.Word.{val}
 use Rattle.text.specs.Text.{named, numbered}
 use Rattle.rule.specs.Flag.{changes, flagOf}
@@ -29,7 +28,7 @@ use Rattle.card.specs.Held.{HasCard}
 use Rattle.card.proofs.Kept.{card-depth, card-steps}
 use Rattle.session.specs.Moves.{restOf, vectorOf}
 use Rattle.session.proofs.Kept.{vector-good}
-use Rattle.history.specs.Told.{wordAt, beforeAt, flagAt}
+use Rattle.history.specs.Told.{beforeAt}
 use Rattle.history.proofs.Ran.{holds, few}
 use Rattle.sheet_text.specs.declared.Entry.{Entry}
 use Rattle.sheet_text.specs.declared.Entry.the-variants.{Nothing, Bad, Rest, Vector}
@@ -37,9 +36,9 @@ use Rattle.sheet_text.specs.declared.Stage.{Stage}
 use Rattle.sheet_text.specs.declared.Stage.the-variants.{Fresh, Going, Over}
 use Rattle.sheet_text.specs.declared.Sheet.{Sheet}
 use Rattle.sheet_text.specs.declared.Piece.{Piece}
-use Rattle.sheet_text.specs.Lines.{blank, lf, depthWord, stepsWord, vectorWord, refusedLine, firstLine, netLine, cardText, vectorText}
+use Rattle.sheet_text.specs.Lines.{blank, lf, depthWord, stepsWord, vectorWord, refusedLine, firstLine, historyLine, cardText, vectorText}
 use Rattle.sheet_text.specs.Walk.{cardEnd, entryAt, body}
-use Rattle.sheet_text.specs.Pieces.{Portion, refusal, unless, loadedPiece, cardPiece, entryPiece, pieceAt, pieceOf, Written, written, Standing}
+use Rattle.sheet_text.specs.Pieces.{Portion, refusal, pieceUnless, loadedPiece, cardPiece, entryPiece, pieceAt, pieceOf, Written, written, Standing}
 use Rattle.sheet_text.proofs.Lengths.{byte-short, word-short, line-short}
 use Rattle.sheet_text.proofs.Steps.{bytes-front, load-holds, vector-rests}
 use Rattle.sheet_text.proofs.Standing.{Placed, entry-placed, piece-stands}
@@ -98,15 +97,17 @@ each-short : (f : ℕ → List ℕ) (xs : List ℕ) → ((x : ℕ) → x ∈ xs 
 each-short f [] h = omega arith
 each-short f (x ∷ xs) h = omega (arith, length-append (f x) (each f xs), h x (List·Memᴰ·head refl), each-short f xs (λ y m. h y (List·Memᴰ·tail m)))
 
+history-short : (s : Session) → HasCard s → (n : ℕ) → n < 256 → length (historyLine s n) ≤ 77
+unfolding historyLine
+history-short s h n l = line-short (depth (cardOf s)) n _ _ _ (card-depth s h) l (val-low (beforeAt s n)) (flag-low _ _)
+
 vector-short : (k : ℕ) (s : Session) → k < 2 ^ 64 → HasCard s → length (vectorText k s) ≤ 20480
 unfolding vectorText
 vector-short k s l h =
-    let line : ℕ → List ℕ = λ n. netLine (depth (cardOf s)) n (val (beforeAt s n)) (wordAt s n) (flagAt s n) in
-    let low : (n : ℕ) → n ∈ from 0 (s .nets) → length (line n) ≤ 77 =
-    λ n m. line-short (depth (cardOf s)) n (val (beforeAt s n)) (wordAt s n) (flagAt s n) (card-depth s h) (omega (arith, few s h, out-from 0 (s .nets) n m .1)) (val-low (beforeAt s n)) (flag-low _ _) in
-    omega (arith, length-append (named vectorWord k lf) (each line (from 0 (s .nets))), word-short k lf l, each-short line (from 0 (s .nets)) low, length-from 0 (s .nets), few s h)
+    omega (arith, length-append (named vectorWord k lf) (each (historyLine s) (from 0 (s .nets))), word-short k lf l,
+    each-short (historyLine s) (from 0 (s .nets)) (λ n m. history-short s h n (omega (arith, few s h, out-from 0 (s .nets) n m .1))), length-from 0 (s .nets), few s h)
 
-unless-short : (a : Answer) (sheet : Sheet) (p : Portion) → ((k : ℕ) → a ≡ Done k → length (p .text) ≤ 20480) → length (unless a sheet p .text) ≤ 20480
+unless-short : (a : Answer) (sheet : Sheet) (p : Portion) → ((k : ℕ) → a ≡ Done k → length (p .text) ≤ 20480) → length (pieceUnless a sheet p .text) ≤ 20480
 unless-short (Done k) sheet p h = h k refl
 unless-short (Refused why) sheet p h = refused-short why
 

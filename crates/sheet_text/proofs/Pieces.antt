@@ -24,8 +24,8 @@ use Rattle.sheet_text.specs.declared.Stage.the-variants.{Fresh, Going, O
 use Rattle.sheet_text.specs.declared.Sheet.{Sheet}
 use Rattle.sheet_text.specs.Lines.{cardText, vectorText}
 use Rattle.sheet_text.specs.Walk.{cardEnd, entryAt, body}
-use Rattle.sheet_text.specs.Sheet.{unless, entryText, recordsText, loadedText, sheetOf}
-use Rattle.sheet_text.specs.Pieces.{fresh, ended, Portion, refusal, unless as unlessPiece, loadedPiece, cardPiece, entryPiece, pieceAt, pieceOf, written, texts, afterPieces, leftAt, left}
+use Rattle.sheet_text.specs.Sheet.{unlessRefused, entryText, recordsText, loadedText, sheetOf}
+use Rattle.sheet_text.specs.Pieces.{fresh, ended, Portion, refusal, pieceUnless, loadedPiece, cardPiece, entryPiece, pieceAt, pieceOf, written, texts, afterPieces, leftAt, left}
 use Rattle.sheet_text.proofs.Standing.{Placed, entry-placed, entry-past, piece-falls}
 
 module _ (file : List ℕ) where
@@ -43,7 +43,7 @@ module _ (file : List ℕ) where
   refused-ends : (n : ℕ) (sheet : Sheet) (why : Refusal) → said n (refusal sheet why) ≡ refusal sheet why .text
   refused-ends n sheet why = ap (λ xs. refusal sheet why .text ++ xs) (over-silent n (ended sheet) refl) ∙ append-nil (refusal sheet why .text)
 
-  answered : (n : ℕ) (a : Answer) (sheet : Sheet) (p : Portion) (text : List ℕ) → said n p ≡ text → said n (unlessPiece a sheet p) ≡ unless a text
+  answered : (n : ℕ) (a : Answer) (sheet : Sheet) (p : Portion) (text : List ℕ) → said n p ≡ text → said n (pieceUnless a sheet p) ≡ unlessRefused a text
   answered n (Done k) sheet p text e = e
   answered n (Refused why) sheet p text e = refused-ends n sheet why
 

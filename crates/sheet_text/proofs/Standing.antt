@@ -28,7 +28,7 @@ use Rattle.sheet_text.specs.declared.Stage.{Stage}
 use Rattle.sheet_text.specs.declared.Stage.the-variants.{Fresh, Going, Over}
 use Rattle.sheet_text.specs.declared.Sheet.{Sheet}
 use Rattle.sheet_text.specs.Walk.{cardEnd, whole, entryIn, entryAt, body}
-use Rattle.sheet_text.specs.Pieces.{fresh, ended, moved, opened, Portion, refusal, unless, loadedPiece, cardPiece, restPiece, vectorPiece, entryPiece, pieceAt, pieceOf, Standing, leftAt, left, isOver}
+use Rattle.sheet_text.specs.Pieces.{fresh, ended, moved, opened, Portion, refusal, pieceUnless, loadedPiece, cardPiece, restPiece, vectorPiece, entryPiece, pieceAt, pieceOf, Standing, leftAt, left, isOver}
 use Rattle.sheet_text.proofs.Steps.{bytes-front, rest-card, vector-card}
 
 -- a rest or a vector is whole: it ends after its head, and inside the file
@@ -81,7 +81,7 @@ fresh-stands = record { good = none-good; deep = λ e. absurd (differ e); counte
     differ : Fresh ≡ Going → ⊥
     differ e = let z : _≡_ {A = ℕ} 0 1 = cc in omega arith
 
-unless-stands : (a : Answer) (sheet : Sheet) (p : Portion) → Good (sheet .session) → Standing (p .after) → Standing (unless a sheet p .after)
+unless-stands : (a : Answer) (sheet : Sheet) (p : Portion) → Good (sheet .session) → Standing (p .after) → Standing (pieceUnless a sheet p .after)
 unless-stands (Done k) sheet p g s = s
 unless-stands (Refused why) sheet p g s = over-stands sheet g
 
@@ -123,7 +123,7 @@ module _ (file : List ℕ) (bytes : Bytes file) where
 -- The bytes left
 
 module _ (file : List ℕ) where
-  unless-left : (a : Answer) (sheet : Sheet) (p : Portion) (k : ℕ) → 0 < k → left (p .after) file < k → left (unless a sheet p .after) file < k
+  unless-left : (a : Answer) (sheet : Sheet) (p : Portion) (k : ℕ) → 0 < k → left (p .after) file < k → left (pieceUnless a sheet p .after) file < k
   unfolding left
   unless-left (Done n) sheet p k l h = h
   unless-left (Refused why) sheet p k l h = l

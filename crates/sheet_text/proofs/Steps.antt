@@ -28,7 +28,7 @@ use Rattle.text.specs.Text.{Put}
 use Rattle.sheet_text.specs.declared.Sheet.{Sheet}
 use Rattle.sheet_text.specs.declared.Stage.{Stage}
 use Rattle.sheet_text.specs.Walk.{cardEnd}
-use Rattle.sheet_text.specs.Pieces.{Portion, Written, refusal, unless, loadedPiece, cardPiece, pieceAt, pieceOf, written}
+use Rattle.sheet_text.specs.Pieces.{Portion, Written, refusal, pieceUnless, loadedPiece, cardPiece, pieceAt, pieceOf, written}
 
 -- a text put at the front of the page, and the sheet after it
 pub hand-back : (p : Portion) {sheet : Sheet} {old new : List ℕ} {n : ℕ} → sheet ≡ p .after → Put (p .text) old 0 new n
@@ -48,11 +48,11 @@ piece-at sheet file x e = ap (λ y. pieceAt y sheet file) (sym e)
 
 -- An answer decides between a refusal and a portion
 
-pub refused-so : (a : Answer) (sheet : Sheet) (p : Portion) (why : Refusal) → a ≡ Refused why → refusal sheet why ≡ unless a sheet p
-refused-so a sheet p why e = ap (λ x. unless x sheet p) (sym e)
+pub refused-so : (a : Answer) (sheet : Sheet) (p : Portion) (why : Refusal) → a ≡ Refused why → refusal sheet why ≡ pieceUnless a sheet p
+refused-so a sheet p why e = ap (λ x. pieceUnless x sheet p) (sym e)
 
-pub done-so : (a : Answer) (sheet : Sheet) (p : Portion) (k : ℕ) → a ≡ Done k → p ≡ unless a sheet p
-done-so a sheet p k e = ap (λ x. unless x sheet p) (sym e)
+pub done-so : (a : Answer) (sheet : Sheet) (p : Portion) (k : ℕ) → a ≡ Done k → p ≡ pieceUnless a sheet p
+done-so a sheet p k e = ap (λ x. pieceUnless x sheet p) (sym e)
 
 -- The card
 

@@ -54,7 +54,10 @@ netLine deep net before word flag = numbered net blank ++ (numbered before blank
 unfoldable pub cardText : Session → List ℕ
 cardText s = firstLine (depth (cardOf s)) (length (stepList (cardOf s)))
 
--- the lines of a vector's histories: "`vector` counts kind 6 records. Then one line a net"
+-- the line of net n, of the histories that a session holds
+unfoldable pub historyLine : Session → ℕ → List ℕ
+historyLine s n = netLine (depth (cardOf s)) n (val (beforeAt s n)) (wordAt s n) (flagAt s n)
+
+-- the lines of a vector: "`vector` counts kind 6 records. Then one line a net"
 unfoldable pub vectorText : ℕ → Session → List ℕ
-vectorText k s =
-    named vectorWord k lf ++ each (λ n. netLine (depth (cardOf s)) n (val (beforeAt s n)) (wordAt s n) (flagAt s n)) (from 0 (s .nets))
+vectorText k s = named vectorWord k lf ++ each (historyLine s) (from 0 (s .nets))

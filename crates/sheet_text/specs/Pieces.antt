@@ -52,25 +52,25 @@ abbrev pub refusal : Sheet → Refusal → Portion
 refusal sheet why = record { text = refusedLine why; after = ended sheet }
 
 -- a refusal ends the sheet with its line
-abbrev pub unless : Answer → Sheet → Portion → Portion
-unless (Done count) sheet p = p
-unless (Refused why) sheet p = refusal sheet why
+abbrev pub pieceUnless : Answer → Sheet → Portion → Portion
+pieceUnless (Done count) sheet p = p
+pieceUnless (Refused why) sheet p = refusal sheet why
 
 -- the card
 abbrev pub loadedPiece : Sheet → ℕ → Loaded → Portion
-loadedPiece sheet end l = unless (l .answer) sheet (record { text = cardText (l .session); after = opened (l .session) end })
+loadedPiece sheet end l = pieceUnless (l .answer) sheet (record { text = cardText (l .session); after = opened (l .session) end })
 
 unfoldable pub cardPiece : Sheet → List ℕ → Portion
 cardPiece sheet file = cond (ltb 65536 (length file)) (refusal sheet NoRoom) (loadedPiece sheet (cardEnd file) (loadOf none (take (cardEnd file) file)))
 
 -- a rest, and a vector, that came to something; the next record is at a place
 abbrev pub restPiece : Sheet → ℕ → Moved → Portion
-restPiece sheet next m = unless (m .answer) sheet (record { text = []; after = moved sheet (m .session) next (sheet .vectors) })
+restPiece sheet next m = pieceUnless (m .answer) sheet (record { text = []; after = moved sheet (m .session) next (sheet .vectors) })
 
 abbrev pub vectorPiece : Sheet → ℕ → Moved → Portion
 vectorPiece sheet next m =
     let k = sheet .vectors + 1 in
-    unless (m .answer) sheet (record { text = vectorText k (m .session); after = moved sheet (m .session) next k })
+    pieceUnless (m .answer) sheet (record { text = vectorText k (m .session); after = moved sheet (m .session) next k })
 
 -- a record
 abbrev pub entryPiece : Sheet → List ℕ → Entry → Portion

@@ -47,9 +47,7 @@ returns c =
     let s = start .args .s in
     let h = holds s (start .pre .0) (start .pre .1 .0) in
     put-same
-    (ap (λ xs. named vectorWord (start .args .number) lf ++ xs)
-    (lines-are s h (start .pre .1 .0) _ _ _ _ (c .before .before .before .before .before .before .before .before .before .before .before .history .ensures) (start .args .depth)
-    ∙ ap (λ d. each (λ n. netLine d n (val (beforeAt s n)) (wordAt s n) (flagAt s n)) (from 0 (s .nets))) (start .pre .1 .1)))
+    (ap (λ xs. named vectorWord (start .args .number) lf ++ xs) (lines-are s h (start .pre .1 .0) _ _ _ _ (c .before .before .before .before .before .before .before .before .before .before .before .history .ensures) (start .args .depth) (start .pre .1 .1)))
     (put-then (c .before .before .before .before .before .put-named .ensures) (c .put-nets .ensures))
 
 pub put-vector-spec : {M : Type 1} → statement M
