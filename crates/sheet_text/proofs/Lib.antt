@@ -5,3 +5,4 @@ pub mod Steps
 pub mod Standing
 pub mod Pieces
 pub mod Fits
+pub mod Splits
