@@ -42,32 +42,38 @@ module _ (s : Session) (h : HasCard s) where
 
   order-back : listed (λ i. getD (s .order) i 0) (s .gates) ≡ gateOrder c
   order-back =
-      ap₂ (λ xs k. listed (λ i. getD xs i 0) k) (order-is s h) (gates-are s h) ∙ padded-back (gateOrder c) (omega (arith, gates-are s h, gates-few s h))
+      ap₂ (λ xs k. listed (λ i. getD xs i 0) k) (order-is s h) (gates-are s h)
+      ∙ padded-back (gateOrder c) (omega (arith, gates-are s h, gates-few s h))
 
   pub steps-is : sizesOf (s .sets) (listed (λ i. getD (s .order) i 0) (s .gates)) ≡ length (stepList c)
   steps-is = ap₂ sizesOf (sets-are s h) order-back ∙ sizes-laid c (h .accepted .free) (card-fits s h .fits) (card-depth s h)
 
   -- three slices of 256 that history filled
   module _ (rested : s .rested ≡ true) (a : Answer) (ws bs fs : List ℕ)
-      (told : _≡_ {A = Told} (record { answer = a; words = ws; befores = bs; flags = fs }) (historyOf s (replicate 256 0) (replicate 256 0) (replicate 256 0))) where
-    abbrev none : List ℕ
-    none = replicate 256 0
+      (told : _≡_ {A = Told} (record { answer = a; words = ws; befores = bs; flags = fs })
+      (historyOf s (replicate 256 0) (replicate 256 0) (replicate 256 0)))
+    where
+      abbrev none : List ℕ
+      none = replicate 256 0
 
-    abbrev roomy : s .nets ≤ length none
-    roomy = omega (arith, few s h, length-replicate {A = ℕ} 256 0)
+      abbrev roomy : s .nets ≤ length none
+      roomy = omega (arith, few s h, length-replicate {A = ℕ} 256 0)
 
-    filled-as : _≡_ {A = Told} (record { answer = a; words = ws; befores = bs; flags = fs }) (written s none none none)
-    filled-as = told ∙ gives-0 s none none none rested (record { for-words = roomy; for-befores = roomy; for-flags = roomy })
+      filled-as : _≡_ {A = Told} (record { answer = a; words = ws; befores = bs; flags = fs }) (written s none none none)
+      filled-as = told ∙ gives-0 s none none none rested (record { for-words = roomy; for-befores = roomy; for-flags = roomy })
 
-    line-is : (n : ℕ) → n < s .nets → netLine (depth c) n (getD bs n 0) (getD ws n 0) (getD fs n 0) ≡ historyLine s n
-    unfolding historyLine
-    line-is n l =
-        let b : getD bs n 0 ≡ val (beforeAt s n) = ap (λ x. getD (x .befores) n 0) filled-as ∙ fill-at (λ m. val (beforeAt s m)) none (s .nets) n l roomy in
-        let w : getD ws n 0 ≡ wordAt s n = ap (λ x. getD (x .words) n 0) filled-as ∙ fill-at (wordAt s) none (s .nets) n l roomy in
-        let f : getD fs n 0 ≡ flagAt s n = ap (λ x. getD (x .flags) n 0) filled-as ∙ fill-at (flagAt s) none (s .nets) n l roomy in
-        ap₂ (λ x y. netLine (depth c) n x y (getD fs n 0)) b w ∙ ap (netLine (depth c) n (val (beforeAt s n)) (wordAt s n)) f
+      line-is : (n : ℕ) → n < s .nets → netLine (depth c) n (getD bs n 0) (getD ws n 0) (getD fs n 0) ≡ historyLine s n
+      unfolding historyLine
+      line-is n l =
+          let b : getD bs n 0 ≡ val (beforeAt s n) = ap (λ x. getD (x .befores) n 0) filled-as
+          ∙ fill-at (λ m. val (beforeAt s m)) none (s .nets) n l roomy in
+          let w : getD ws n 0 ≡ wordAt s n = ap (λ x. getD (x .words) n 0) filled-as ∙ fill-at (wordAt s) none (s .nets) n l roomy in
+          let f : getD fs n 0 ≡ flagAt s n = ap (λ x. getD (x .flags) n 0) filled-as ∙ fill-at (flagAt s) none (s .nets) n l roomy in
+          ap₂ (λ x y. netLine (depth c) n x y (getD fs n 0)) b w ∙ ap (netLine (depth c) n (val (beforeAt s n)) (wordAt s n)) f
 
-    pub lines-are : (d : ℕ) → d ≡ depth c → each (λ n. netLine d n (getD bs n 0) (getD ws n 0) (getD fs n 0)) (from 0 (s .nets)) ≡ each (historyLine s) (from 0 (s .nets))
-    lines-are d e =
-        ap (λ x. each (λ n. netLine x n (getD bs n 0) (getD ws n 0) (getD fs n 0)) (from 0 (s .nets))) e
-        ∙ each-ext (λ n. netLine (depth c) n (getD bs n 0) (getD ws n 0) (getD fs n 0)) (historyLine s) (from 0 (s .nets)) (λ n m. line-is n (omega (arith, out-from 0 (s .nets) n m .1)))
+      pub lines-are : (d : ℕ) → d ≡ depth c
+          → each (λ n. netLine d n (getD bs n 0) (getD ws n 0) (getD fs n 0)) (from 0 (s .nets)) ≡ each (historyLine s) (from 0 (s .nets))
+      lines-are d e =
+          ap (λ x. each (λ n. netLine x n (getD bs n 0) (getD ws n 0) (getD fs n 0)) (from 0 (s .nets))) e
+          ∙ each-ext (λ n. netLine (depth c) n (getD bs n 0) (getD ws n 0) (getD fs n 0)) (historyLine s) (from 0 (s .nets))
+          (λ n m. line-is n (omega (arith, out-from 0 (s .nets) n m .1)))

@@ -91,7 +91,13 @@ unfolding cardText firstLine
 card-short s h =
     let d = depth (cardOf s) in
     let n = length (stepList (cardOf s)) in
-    omega (arith, length-append (named depthWord d blank) (named stepsWord n lf), word-short d blank (omega (arith, card-depth s h)), word-short n lf (omega (arith, card-steps s h)))
+    omega (
+      arith,
+      length-append (named depthWord d blank) (named stepsWord n lf),
+      word-short d blank (omega (arith, card-depth s h)),
+      word-short n lf
+          (omega (arith, card-steps s h)),
+    )
 
 each-short : (f : ℕ → List ℕ) (xs : List ℕ) → ((x : ℕ) → x ∈ xs → length (f x) ≤ 77) → length (each f xs) ≤ 77 * length xs
 each-short f [] h = omega arith
@@ -104,10 +110,17 @@ history-short s h n l = line-short (depth (cardOf s)) n _ _ _ (card-depth s h) l
 vector-short : (k : ℕ) (s : Session) → k < 2 ^ 64 → HasCard s → length (vectorText k s) ≤ 20480
 unfolding vectorText
 vector-short k s l h =
-    omega (arith, length-append (named vectorWord k lf) (each (historyLine s) (from 0 (s .nets))), word-short k lf l,
-    each-short (historyLine s) (from 0 (s .nets)) (λ n m. history-short s h n (omega (arith, few s h, out-from 0 (s .nets) n m .1))), length-from 0 (s .nets), few s h)
+    omega (
+      arith,
+      length-append (named vectorWord k lf) (each (historyLine s) (from 0 (s .nets))),
+      word-short k lf l,
+      each-short (historyLine s) (from 0 (s .nets)) (λ n m. history-short s h n (omega (arith, few s h, out-from 0 (s .nets) n m .1))),
+      length-from 0 (s .nets),
+      few s h,
+    )
 
-unless-short : (a : Answer) (sheet : Sheet) (p : Portion) → ((k : ℕ) → a ≡ Done k → length (p .text) ≤ 20480) → length (pieceUnless a sheet p .text) ≤ 20480
+unless-short : (a : Answer) (sheet : Sheet) (p : Portion) → ((k : ℕ) → a ≡ Done k → length (p .text) ≤ 20480)
+    → length (pieceUnless a sheet p .text) ≤ 20480
 unless-short (Done k) sheet p h = h k refl
 unless-short (Refused why) sheet p h = refused-short why
 
@@ -133,7 +146,8 @@ module _ (file : List ℕ) (bytes : Bytes file) (size : length file < 2 ^ 64) wh
           let v = body file (sheet .at) next in
           let m = vectorOf (sheet .session) v in
           unless-short (m .answer) sheet _
-          (λ k e. vector-short (sheet .vectors + 1) (m .session) (omega (arith, s .counted q, p .0, p .1)) (holds (m .session) (vector-good (sheet .session) (s .good) v) (vector-rests (sheet .session) v k e)))
+          (λ k e. vector-short (sheet .vectors + 1) (m .session) (omega (arith, s .counted q, p .0, p .1))
+          (holds (m .session) (vector-good (sheet .session) (s .good) v) (vector-rests (sheet .session) v k e)))
 
       go : (x : Stage) → sheet .stage ≡ x → length (pieceAt x sheet file .text) ≤ 20480
       go Fresh e = card (ltb 65536 (length file))
@@ -141,7 +155,8 @@ module _ (file : List ℕ) (bytes : Bytes file) (size : length file < 2 ^ 64) wh
       go Over e = omega arith
 
   -- a piece that is handed back so: the sheet after it stands, and it fits
-  pub piece-kept : (sheet : Sheet) → Standing sheet → (old new : List ℕ) (r : Piece) → _≡_ {A = Written} (record { piece = r; page = new }) (written (pieceOf sheet file) old)
+  pub piece-kept : (sheet : Sheet) → Standing sheet → (old new : List ℕ) (r : Piece)
+      → _≡_ {A = Written} (record { piece = r; page = new }) (written (pieceOf sheet file) old)
       → (_≡_ {A = Written} (record { piece = r; page = new }) (written (pieceOf sheet file) old)) × Standing (r .sheet) × (r .length ≤ 20480)
   unfolding written
   piece-kept sheet s old new r w =
@@ -149,16 +164,19 @@ module _ (file : List ℕ) (bytes : Bytes file) (size : length file < 2 ^ 64) wh
       (w, subst Standing (sym (ap (λ x. x .piece .sheet) w)) (piece-stands file bytes sheet s), omega (arith, piece-fits sheet s))
 
 -- so what is written of the page, as many bytes as the piece has, is the piece's text
-pub piece-read : (p : Portion) (page : List ℕ) → length (p .text) ≤ length page → take (written p page .piece .length) (written p page .page) ≡ p .text
+pub piece-read : (p : Portion) (page : List ℕ) → length (p .text) ≤ length page
+    → take (written p page .piece .length) (written p page .page) ≡ p .text
 unfolding written
 piece-read p page l = ap (take (length (p .text))) (sets-eq (p .text) page 0 (omega arith)) ∙ take-at (p .text) _ (length (p .text)) refl
 
 -- and the page stays as long as it was
-pub page-stays : (p : Portion) (old new : List ℕ) (r : Piece) → _≡_ {A = Written} (record { piece = r; page = new }) (written p old) → length new ≡ length old
+pub page-stays : (p : Portion) (old new : List ℕ) (r : Piece) → _≡_ {A = Written} (record { piece = r; page = new }) (written p old)
+    → length new ≡ length old
 unfolding written
 page-stays p old new r w = ap (λ x. length (x .page)) w ∙ length-sets old 0 (p .text)
 
 -- the sheet after it is the portion's
-pub sheet-after : (p : Portion) (old new : List ℕ) (r : Piece) → _≡_ {A = Written} (record { piece = r; page = new }) (written p old) → r .sheet ≡ p .after
+pub sheet-after : (p : Portion) (old new : List ℕ) (r : Piece) → _≡_ {A = Written} (record { piece = r; page = new }) (written p old)
+    → r .sheet ≡ p .after
 unfolding written
 sheet-after p old new r w = ap (λ x. x .piece .sheet) w

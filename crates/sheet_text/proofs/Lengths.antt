@@ -30,11 +30,21 @@ unfolding netLine
 line-short deep net before word flag d n b f =
     let last = numbered flag lf in
     let mid = values word deep ++ (blank ∷ []) in
-    omega (arith, length-append (numbered net blank) (numbered before blank ++ (mid ++ last)), length-append (numbered before blank) (mid ++ last),
-    length-append mid last, length-append (values word deep) (blank ∷ []), values-length word deep, byte-short net blank n, byte-short before blank b, byte-short flag lf f)
+    omega (
+      arith,
+      length-append (numbered net blank) (numbered before blank ++ (mid ++ last)),
+      length-append (numbered before blank) (mid ++ last),
+      length-append mid last,
+      length-append (values word deep) (blank ∷ []),
+      values-length word deep,
+      byte-short net blank n,
+      byte-short before blank b,
+      byte-short flag lf f,
+    )
 
 -- one value more
-pub values-more : (f : ℕ → ℕ) (t : ℕ) {a b c : List ℕ} {i j e v : ℕ} → v ≡ f t → Put (listed f t) a i b j → Put (v ∷ []) b j c e → Put (listed f (t + 1)) a i c e
+pub values-more : (f : ℕ → ℕ) (t : ℕ) {a b c : List ℕ} {i j e v : ℕ} → v ≡ f t → Put (listed f t) a i b j → Put (v ∷ []) b j c e
+    → Put (listed f (t + 1)) a i c e
 values-more f t q x y = put-same (ap (λ v. listed f t ++ (v ∷ [])) q ∙ sym (listed-more f t)) (put-then x y)
 
 -- one line more
@@ -43,5 +53,6 @@ each-more f k =
     ap (λ n. each f (from 0 n)) (add-one k) ∙ ap (each f) (from-more 0 k) ∙ each-append f (from 0 k) ((0 + k) ∷ [])
     ∙ ap (λ xs. each f (from 0 k) ++ xs) (append-nil (f (0 + k)) ∙ ap f (omega arith))
 
-pub lines-more : (f : ℕ → List ℕ) (k : ℕ) {a b c : List ℕ} {i j e : ℕ} → Put (each f (from 0 k)) a i b j → Put (f k) b j c e → Put (each f (from 0 (k + 1))) a i c e
+pub lines-more : (f : ℕ → List ℕ) (k : ℕ) {a b c : List ℕ} {i j e : ℕ} → Put (each f (from 0 k)) a i b j → Put (f k) b j c e
+    → Put (each f (from 0 (k + 1))) a i c e
 lines-more f k x y = put-same (sym (each-more f k)) (put-then x y)

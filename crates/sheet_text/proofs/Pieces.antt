@@ -43,7 +43,8 @@ module _ (file : List ℕ) where
   refused-ends : (n : ℕ) (sheet : Sheet) (why : Refusal) → said n (refusal sheet why) ≡ refusal sheet why .text
   refused-ends n sheet why = ap (λ xs. refusal sheet why .text ++ xs) (over-silent n (ended sheet) refl) ∙ append-nil (refusal sheet why .text)
 
-  answered : (n : ℕ) (a : Answer) (sheet : Sheet) (p : Portion) (text : List ℕ) → said n p ≡ text → said n (pieceUnless a sheet p) ≡ unlessRefused a text
+  answered : (n : ℕ) (a : Answer) (sheet : Sheet) (p : Portion) (text : List ℕ) → said n p ≡ text
+      → said n (pieceUnless a sheet p) ≡ unlessRefused a text
   answered n (Done k) sheet p text e = e
   answered n (Refused why) sheet p text e = refused-ends n sheet why
 
@@ -52,9 +53,12 @@ module _ (file : List ℕ) where
   going s depth at vectors = record { session = s; depth = depth; at = at; vectors = vectors; stage = Going }
 
   abbrev Follows : ℕ → ℕ → Type 0
-  Follows n fuel = (s : Session) (depth at vectors : ℕ) → length file ≤ at + n → length file ≤ at + fuel → texts n (going s depth at vectors) file ≡ recordsText fuel file at s vectors
+  Follows n fuel =
+      (s : Session) (depth at vectors : ℕ) → length file ≤ at + n → length file ≤ at + fuel → texts n (going s depth at vectors) file ≡ recordsText
+      fuel file at s vectors
 
-  entry-said : (n fuel : ℕ) → Follows n fuel → (s : Session) (depth at vectors : ℕ) → length file ≤ at + suc n → length file ≤ at + suc fuel → (e : Entry) → Placed (length file) at e
+  entry-said : (n fuel : ℕ) → Follows n fuel → (s : Session) (depth at vectors : ℕ) → length file ≤ at + suc n → length file ≤ at + suc fuel
+      → (e : Entry) → Placed (length file) at e
       → said n (entryPiece (going s depth at vectors) file e) ≡ entryText file at s vectors e (recordsText fuel file)
   entry-said n fuel h s depth at vectors l m Nothing p = over-silent n (ended (going s depth at vectors)) refl
   entry-said n fuel h s depth at vectors l m (Bad why) p = refused-ends n (going s depth at vectors) why
@@ -70,9 +74,11 @@ module _ (file : List ℕ) where
   records-said : (n fuel : ℕ) → Follows n fuel
   unfolding texts recordsText pieceOf
   records-said zero zero s depth at vectors l m = refl
-  records-said zero (suc fuel) s depth at vectors l m = sym (ap (λ e. entryText file at s vectors e (recordsText fuel file)) (entry-past file at (omega arith)))
+  records-said zero (suc fuel) s depth at vectors l m =
+      sym (ap (λ e. entryText file at s vectors e (recordsText fuel file)) (entry-past file at (omega arith)))
   records-said (suc n) zero s depth at vectors l m =
-      ap (λ e. said n (entryPiece (going s depth at vectors) file e)) (entry-past file at (omega arith)) ∙ over-silent n (ended (going s depth at vectors)) refl
+      ap (λ e. said n (entryPiece (going s depth at vectors) file e)) (entry-past file at (omega arith))
+      ∙ over-silent n (ended (going s depth at vectors)) refl
   records-said (suc n) (suc fuel) s depth at vectors l m =
       entry-said n fuel (records-said n fuel) s depth at vectors l m (entryAt file at) (entry-placed file at)
 
@@ -85,9 +91,13 @@ module _ (file : List ℕ) where
       loaded : Loaded
       loaded = loadOf none (take (cardEnd file) file)
 
-      go : (b : Bool) → said n (cond b (refusal fresh NoRoom) (loadedPiece fresh (cardEnd file) loaded)) ≡ cond b (refusal fresh NoRoom .text) (loadedText file loaded)
+      go : (b : Bool)
+          → said n (cond b (refusal fresh NoRoom) (loadedPiece fresh (cardEnd file) loaded)) ≡ cond b (refusal fresh NoRoom .text) (loadedText file loaded)
       go true = refused-ends n fresh NoRoom
-      go false = answered n (loaded .answer) fresh _ _ (ap (λ xs. cardText (loaded .session) ++ xs) (records-said n (length file) (loaded .session) (depth (cardOf (loaded .session))) (cardEnd file) 0 (omega arith) (omega arith)))
+      go false =
+          answered n (loaded .answer) fresh _ _
+          (ap (λ xs. cardText (loaded .session) ++ xs)
+          (records-said n (length file) (loaded .session) (depth (cardOf (loaded .session))) (cardEnd file) 0 (omega arith) (omega arith)))
 
   -- They end: after so many pieces as `left` says the sheet is over
   ends-within : (n : ℕ) (sheet : Sheet) → left sheet file ≤ n → afterPieces n sheet file .stage ≡ Over

@@ -53,7 +53,8 @@ module _ (s : List ℕ) where
     after = sym (drop-drop (length body) (at + 4) s) ∙ ap (drop (length body)) (sym (drop-drop 4 at s) ∙ ap (drop 4) e) ∙ drop-append-seam body later
 
   -- the walk passes the nets, and ends at the end record
-  walk-ends : (c : List Net) (at : ℕ) (later : List ℕ) → drop at s ≡ each netBytes c ++ (endBytes ++ later) → ending s at ≡ at + length (each netBytes c) + 4
+  walk-ends : (c : List Net) (at : ℕ) (later : List ℕ) → drop at s ≡ each netBytes c ++ (endBytes ++ later)
+      → ending s at ≡ at + length (each netBytes c) + 4
   unfolding netBytes
   walk-ends [] at later e = end-here s at 4 0 (inside at 4 [] later e) (kind-at at 4 [] later e) (len-at at 4 [] later e) refl ∙ omega arith
   walk-ends (w ∷ c) at later e =
@@ -71,7 +72,8 @@ card-said : (c : List Net) → Accepted c → cardText (sessionOf c) ≡ firstLi
 unfolding cardText
 card-said c a = ap (λ d. firstLine (depth d) (length (stepList d))) (session-card c a)
 
-taken-said : (c : List Net) (file : List ℕ) → loadedText file (taken c) ≡ cardText (sessionOf c) ++ recordsText (length file) file (cardEnd file) (sessionOf c) 0
+taken-said : (c : List Net) (file : List ℕ)
+    → loadedText file (taken c) ≡ cardText (sessionOf c) ++ recordsText (length file) file (cardEnd file) (sessionOf c) 0
 unfolding loadedText
 taken-said c file = refl
 
@@ -82,7 +84,9 @@ module _ (c : List Net) (later : List ℕ) where
   pub card-ends : cardEnd file ≡ length (cardBytes c)
   unfolding cardBytes
   card-ends =
-      sym (end-first file) ∙ walk-ends file c 0 later (append-assoc (each netBytes c) endBytes later) ∙ omega (arith, length-append (each netBytes c) endBytes)
+      sym (end-first file)
+      ∙ walk-ends file c 0 later (append-assoc (each netBytes c) endBytes later)
+      ∙ omega (arith, length-append (each netBytes c) endBytes)
 
   pub card-loaded : take (cardEnd file) file ≡ cardBytes c
   card-loaded = ap (λ n. take n file) card-ends ∙ take-append-seam (cardBytes c) later
@@ -93,7 +97,9 @@ module _ (c : List Net) (later : List ℕ) where
   unfolding sheetOf
   sheet-of-card a bytes short =
       rw (le-ltb 65536 (length file) short)
-      (ap (λ p. loadedText file (loadOf none p)) card-loaded ∙ ap (loadedText file) (load-takes none (cardBytes c) bytes (record { card = c; bytes = refl; accepted = a })) ∙ said)
+      (ap (λ p. loadedText file (loadOf none p)) card-loaded
+      ∙ ap (loadedText file) (load-takes none (cardBytes c) bytes (record { card = c; bytes = refl; accepted = a }))
+      ∙ said)
     where
       first : cardText (sessionOf c) ≡ firstLine (depth c) (length (stepList c))
       first = card-said c a

@@ -52,7 +52,9 @@ entry-placed file at = go (leb n at) (ltb n (at + 4)) (eqb kind 5) (eqb kind 6) 
     next = at + 4 + u16At file at
 
     go : (a b c d e : Bool) → (e ≡ false → (at + 4 ≤ next) × (next ≤ n))
-        → Placed n at (cond a Nothing (cond b (Bad CutShort) (cond c (cond e (Bad CutShort) (Rest next)) (cond d (cond e (Bad CutShort) (Vector next)) (Bad BadRecord)))))
+        → Placed n at
+        (cond a Nothing
+        (cond b (Bad CutShort) (cond c (cond e (Bad CutShort) (Rest next)) (cond d (cond e (Bad CutShort) (Vector next)) (Bad BadRecord)))))
     go true b c d e h = tt
     go false true c d e h = tt
     go false false true d true h = tt
@@ -97,19 +99,23 @@ module _ (file : List ℕ) (bytes : Bytes file) where
       go true = over-stands sheet g
       go false =
           unless-stands (l .answer) sheet _ g
-          (record { good = load-good none (take (cardEnd file) file) none-good (bytes-front (cardEnd file) file bytes); deep = λ e. refl; counted = λ e. omega arith })
+          (record
+          { good = load-good none (take (cardEnd file) file) none-good (bytes-front (cardEnd file) file bytes); deep = λ e. refl; counted = λ e. omega arith })
 
-  entry-stands : (sheet : Sheet) → Standing sheet → sheet .stage ≡ Going → (e : Entry) → Placed (length file) (sheet .at) e → Standing (entryPiece sheet file e .after)
+  entry-stands : (sheet : Sheet) → Standing sheet → sheet .stage ≡ Going → (e : Entry) → Placed (length file) (sheet .at) e
+      → Standing (entryPiece sheet file e .after)
   entry-stands sheet s q Nothing p = over-stands sheet (s .good)
   entry-stands sheet s q (Bad why) p = over-stands sheet (s .good)
   entry-stands sheet s q (Rest next) p =
       let v = body file (sheet .at) next in
       unless-stands (restOf (sheet .session) v .answer) sheet _ (s .good)
-      (record { good = rest-good (sheet .session) (s .good) v; deep = λ e. s .deep q ∙ ap depth (sym (rest-card (sheet .session) v)); counted = λ e. omega (arith, s .counted q, p .0) })
+      (record
+      { good = rest-good (sheet .session) (s .good) v; deep = λ e. s .deep q ∙ ap depth (sym (rest-card (sheet .session) v)); counted = λ e. omega (arith, s .counted q, p .0) })
   entry-stands sheet s q (Vector next) p =
       let v = body file (sheet .at) next in
       unless-stands (vectorOf (sheet .session) v .answer) sheet _ (s .good)
-      (record { good = vector-good (sheet .session) (s .good) v; deep = λ e. s .deep q ∙ ap depth (sym (vector-card (sheet .session) v)); counted = λ e. omega (arith, s .counted q, p .0) })
+      (record
+      { good = vector-good (sheet .session) (s .good) v; deep = λ e. s .deep q ∙ ap depth (sym (vector-card (sheet .session) v)); counted = λ e. omega (arith, s .counted q, p .0) })
 
   pub piece-stands : (sheet : Sheet) → Standing sheet → Standing (pieceOf sheet file .after)
   unfolding pieceOf
@@ -146,8 +152,10 @@ module _ (file : List ℕ) where
       entry : (e : Entry) → Placed (length file) (sheet .at) e → left (entryPiece sheet file e .after) file < rest + 1
       entry Nothing p = omega arith
       entry (Bad why) p = omega arith
-      entry (Rest next) p = unless-left (restOf (sheet .session) (body file (sheet .at) next) .answer) sheet _ (rest + 1) (omega arith) (omega (arith, p .0, p .1))
-      entry (Vector next) p = unless-left (vectorOf (sheet .session) (body file (sheet .at) next) .answer) sheet _ (rest + 1) (omega arith) (omega (arith, p .0, p .1))
+      entry (Rest next) p =
+          unless-left (restOf (sheet .session) (body file (sheet .at) next) .answer) sheet _ (rest + 1) (omega arith) (omega (arith, p .0, p .1))
+      entry (Vector next) p =
+          unless-left (vectorOf (sheet .session) (body file (sheet .at) next) .answer) sheet _ (rest + 1) (omega arith) (omega (arith, p .0, p .1))
 
       go : (x : Stage) → sheet .stage ≡ x → left (pieceAt x sheet file .after) file < leftAt x (length file) rest
       go Fresh e = card (ltb 65536 (length file))

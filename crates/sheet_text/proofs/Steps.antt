@@ -60,7 +60,8 @@ pub card-long : (sheet : Sheet) (file : List ℕ) → 65536 < length file → re
 unfolding cardPiece
 card-long sheet file l = rw (lt-ltb 65536 (length file) l)
 
-pub card-loads : (sheet : Sheet) (file : List ℕ) (empty : Session) (end : ℕ) (l : Loaded) → length file ≤ 65536 → empty ≡ none → end ≡ cardEnd file → l ≡ loadOf empty (take end file)
+pub card-loads : (sheet : Sheet) (file : List ℕ) (empty : Session) (end : ℕ) (l : Loaded) → length file ≤ 65536 → empty ≡ none → end ≡ cardEnd file
+    → l ≡ loadOf empty (take end file)
     → loadedPiece sheet end l ≡ cardPiece sheet file
 unfolding cardPiece
 card-loads sheet file empty end l short en ee el =
@@ -74,7 +75,8 @@ bytes-front (suc n) (x ∷ s) b (suc i) = bytes-front n s (λ j. b (suc j)) i
 
 -- a card that load takes is held
 pub load-holds : (old : Session) (s : List ℕ) → Bytes s → (l : Loaded) → l ≡ loadOf old s → (k : ℕ) → l .answer ≡ Done k → HasCard (l .session)
-load-holds old s bytes l e k d = subst (λ x. HasCard (x .session)) (sym e) (go (loadOf old s) (load-ruled old s bytes) (ap (λ x. x .answer) (sym e) ∙ d))
+load-holds old s bytes l e k d =
+    subst (λ x. HasCard (x .session)) (sym e) (go (loadOf old s) (load-ruled old s bytes) (ap (λ x. x .answer) (sym e) ∙ d))
   where
     go : (x : Loaded) → LoadRuling old s x → x .answer ≡ Done k → HasCard (x .session)
     go x (load-refuses r w) q = let z : _≡_ {A = ℕ} 0 1 = cc in absurd (omega arith)

@@ -38,13 +38,15 @@ module _ (file : List ℕ) where
   unfolding endFrom
   end-none at l = once at ∙ rw (lt-ltb (length file) (at + 4) l)
 
-  pub end-here : (at kind len : ℕ) → at + 4 ≤ length file → kind ≡ u16At file (at + 2) → len ≡ u16At file at → isEnd kind len ≡ true → ending at ≡ at + 4
+  pub end-here : (at kind len : ℕ) → at + 4 ≤ length file → kind ≡ u16At file (at + 2) → len ≡ u16At file at → isEnd kind len ≡ true
+      → ending at ≡ at + 4
   unfolding endFrom
   end-here at kind len l k n e =
       let t : isEnd (u16At file (at + 2)) (u16At file at) ≡ true = sym (ap₂ isEnd k n) ∙ e in
       once at ∙ rw (le-ltb (length file) (at + 4) l, t)
 
-  pub end-on : (at kind len : ℕ) → at + 4 ≤ length file → kind ≡ u16At file (at + 2) → len ≡ u16At file at → isEnd kind len ≡ false → ending at ≡ ending (at + 4 + len)
+  pub end-on : (at kind len : ℕ) → at + 4 ≤ length file → kind ≡ u16At file (at + 2) → len ≡ u16At file at → isEnd kind len ≡ false
+      → ending at ≡ ending (at + 4 + len)
   unfolding endFrom
   end-on at kind len l k n e =
       let t : isEnd (u16At file (at + 2)) (u16At file at) ≡ false = sym (ap₂ isEnd k n) ∙ e in
@@ -85,6 +87,7 @@ module _ (n at kind len : ℕ) where
     unfolding entryIn
     in-vector e m = rw (lt-leb n at inside, le-ltb n (at + 4) l, ne-eqb kind 5 (λ x. omega arith), eq-eqb kind 6 e, le-ltb n (at + 4 + len) m)
 
-pub entry-as : (file : List ℕ) (at kind len : ℕ) → kind ≡ u16At file (at + 2) → len ≡ u16At file at → entryIn (length file) at kind len ≡ entryAt file at
+pub entry-as : (file : List ℕ) (at kind len : ℕ) → kind ≡ u16At file (at + 2) → len ≡ u16At file at
+    → entryIn (length file) at kind len ≡ entryAt file at
 unfolding entryAt
 entry-as file at kind len k l = ap₂ (entryIn (length file) at) k l

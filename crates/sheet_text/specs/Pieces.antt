@@ -61,7 +61,8 @@ abbrev pub loadedPiece : Sheet → ℕ → Loaded → Portion
 loadedPiece sheet end l = pieceUnless (l .answer) sheet (record { text = cardText (l .session); after = opened (l .session) end })
 
 unfoldable pub cardPiece : Sheet → List ℕ → Portion
-cardPiece sheet file = cond (ltb 65536 (length file)) (refusal sheet NoRoom) (loadedPiece sheet (cardEnd file) (loadOf none (take (cardEnd file) file)))
+cardPiece sheet file =
+    cond (ltb 65536 (length file)) (refusal sheet NoRoom) (loadedPiece sheet (cardEnd file) (loadOf none (take (cardEnd file) file)))
 
 -- a rest, and a vector, that came to something; the next record is at a place
 abbrev pub restPiece : Sheet → ℕ → Moved → Portion

@@ -33,7 +33,8 @@ pub put-same : {s t a b : List ℕ} {i j : ℕ} → s ≡ t → Put s a i b j �
 put-same {a = a} {b = b} {i = i} {j = j} e p = subst (λ s. Put s a i b j) e p
 
 -- one byte more of a word
-pub put-more : (word : List ℕ) (k : ℕ) {a b c : List ℕ} {i j e : ℕ} → k < length word → Put (take k word) a i b j → Put (getD word k 0 ∷ []) b j c e → Put (take (k + 1) word) a i c e
+pub put-more : (word : List ℕ) (k : ℕ) {a b c : List ℕ} {i j e : ℕ} → k < length word → Put (take k word) a i b j → Put (getD word k 0 ∷ []) b j c e
+    → Put (take (k + 1) word) a i c e
 put-more word k l p q = put-same (sym (take-suc word k 0 l) ∙ ap (λ n. take n word) (sym (add-one k))) (put-then p q)
 
 -- a text at the front of a page is read there
@@ -49,7 +50,8 @@ fuel zero j n p q = absurd (omega arith)
 fuel (suc k) zero n p q = absurd (omega arith)
 fuel (suc k) (suc j) n p q = go (decLt n 10) (λ l. fuel k j (n / 10) (omega arith) (omega arith))
   where
-    go : Dec (n < 10) → (10 ≤ n → digitsIn k (n / 10) ≡ digitsIn j (n / 10)) → cond (ltb n 10) (digit n ∷ []) (digitsIn k (n / 10) ++ (digit (n % 10) ∷ [])) ≡ cond (ltb n 10) (digit n ∷ []) (digitsIn j (n / 10) ++ (digit (n % 10) ∷ []))
+    go : Dec (n < 10) → (10 ≤ n → digitsIn k (n / 10) ≡ digitsIn j (n / 10))
+        → cond (ltb n 10) (digit n ∷ []) (digitsIn k (n / 10) ++ (digit (n % 10) ∷ [])) ≡ cond (ltb n 10) (digit n ∷ []) (digitsIn j (n / 10) ++ (digit (n % 10) ∷ []))
     go (yes l) f = rw (lt-ltb n 10 l)
     go (no l) f = rw (le-ltb n 10 (omega arith)) (ap (λ xs. xs ++ (digit (n % 10) ∷ [])) (f (omega arith)))
 
@@ -59,7 +61,9 @@ decimal-low n l = rw (lt-ltb n 10 l)
 
 pub decimal-high : (n : ℕ) → 10 ≤ n → decimal n ≡ decimal (n / 10) ++ (digit (n % 10) ∷ [])
 unfolding decimal digitsIn
-decimal-high n l = subst (λ b. cond b (digit n ∷ []) (digitsIn n (n / 10) ++ (digit (n % 10) ∷ [])) ≡ decimal (n / 10) ++ (digit (n % 10) ∷ [])) (sym (le-ltb n 10 l)) (ap (λ xs. xs ++ (digit (n % 10) ∷ [])) (fuel n (suc (n / 10)) (n / 10) (omega arith) (omega arith)))
+decimal-high n l =
+    subst (λ b. cond b (digit n ∷ []) (digitsIn n (n / 10) ++ (digit (n % 10) ∷ [])) ≡ decimal (n / 10) ++ (digit (n % 10) ∷ []))
+    (sym (le-ltb n 10 l)) (ap (λ xs. xs ++ (digit (n % 10) ∷ [])) (fuel n (suc (n / 10)) (n / 10) (omega arith) (omega arith)))
 
 -- one digit more than the number without its last
 pub length-more : (n : ℕ) → 10 ≤ n → length (decimal n) ≡ length (decimal (n / 10)) + 1

@@ -20,14 +20,21 @@ abbrev μ-loop : tie.MeasureT-loop
 -- the page is as long as it was, and fewer bytes are left
 
 stays : (c : tie.After-next Inv-loop μ-loop) → length (c .next .last .1 .1 .0) ≡ 20480
-stays c = let l = c .before .before .before .before .loop in page-stays (pieceOf (l .sheet) (c .before .before .before .before .before .before .before .args .file .now)) (l .out) _ _ (c .next .ensures .0) ∙ l .inv .1
+stays c =
+    let l = c .before .before .before .before .loop in
+    page-stays (pieceOf (l .sheet) (c .before .before .before .before .before .before .before .args .file .now)) (l .out) _ _ (c .next .ensures .0)
+    ∙ l .inv .1
 
-falls : (c : tie.After-next Inv-loop μ-loop) → left (c .next .result .sheet) (c .before .before .before .before .before .before .before .args .file .now) < left (c .before .before .before .before .loop .sheet) (c .before .before .before .before .before .before .before .args .file .now)
+falls : (c : tie.After-next Inv-loop μ-loop)
+    → left (c .next .result .sheet) (c .before .before .before .before .before .before .before .args .file .now) < left (c .before .before .before .before .loop .sheet) (c .before .before .before .before .before .before .before .args .file .now)
 falls c =
     let l = c .before .before .before .before .loop in
     let file = c .before .before .before .before .before .before .before .args .file .now in
-    omega (arith, ap (λ x. left x file) (sheet-after (pieceOf (l .sheet) file) (l .out) _ _ (c .next .ensures .0)),
-    going-falls file (l .sheet) (sym (c .before .before .before .is-over .ensures) ∙ not-true _ (c .before .before .if1 .taken)))
+    omega (
+      arith,
+      ap (λ x. left x file) (sheet-after (pieceOf (l .sheet) file) (l .out) _ _ (c .next .ensures .0)),
+      going-falls file (l .sheet) (sym (c .before .before .before .is-over .ensures) ∙ not-true _ (c .before .before .if1 .taken)),
+    )
 
 begin-requires : tie.Need-begin-requires Inv-loop μ-loop
 begin-requires c κs = search needs

@@ -13,7 +13,10 @@ empty-requires c κs = search needs
 
 returns : tie.Need-returns
 unfolding fresh
-returns c = let e : _≡_ {A = Sheet} (record { session = c .empty .result; depth = 0; at = 0; vectors = 0; stage = Fresh }) fresh = λ i. record { session = c .empty .ensures i; depth = 0; at = 0; vectors = 0; stage = Fresh } in (e, subst Standing (sym e) fresh-stands)
+returns c =
+    let e : _≡_ {A = Sheet} (record { session = c .empty .result; depth = 0; at = 0; vectors = 0; stage = Fresh }) fresh = λ i. record
+    { session = c .empty .ensures i; depth = 0; at = 0; vectors = 0; stage = Fresh } in
+    (e, subst Standing (sym e) fresh-stands)
 
 pub begin-spec : {M : Type 1} → statement M
 begin-spec = tie.close (tie.spec empty-requires returns)

@@ -24,13 +24,25 @@ enum-told-3 : tie.Need-enum-told-3
 enum-told-3 c = search needs
 
 returns : tie.Need-returns
-returns c = let s = c .before .before .before .before .before in let a = s .args in piece-kept (a .file .now) (λ i. omega (arith, c .before .before .before .before .shared-slice-known .given i)) (omega arith) (a .sheet) (s .pre) _ _ _ (hand-on (a .out .now) (piece-at (a .sheet) (a .file .now) _ (c .before .before .enum-told .given .1)) (c .open-card .ensures))
+returns c =
+    let s = c .before .before .before .before .before in
+    let a = s .args in
+    piece-kept (a .file .now) (λ i. omega (arith, c .before .before .before .before .shared-slice-known .given i)) (omega arith) (a .sheet) (s .pre) _
+    _ _ (hand-on (a .out .now) (piece-at (a .sheet) (a .file .now) _ (c .before .before .enum-told .given .1)) (c .open-card .ensures))
 
 returns-2 : tie.Need-returns-2
-returns-2 c = let s = c .before .before .before .before .before in let a = s .args in piece-kept (a .file .now) (λ i. omega (arith, c .before .before .before .before .shared-slice-known .given i)) (omega arith) (a .sheet) (s .pre) _ _ _ (hand-on (a .out .now) (piece-at (a .sheet) (a .file .now) _ (c .before .before .enum-told2 .given .1)) (c .next-record .ensures))
+returns-2 c =
+    let s = c .before .before .before .before .before in
+    let a = s .args in
+    piece-kept (a .file .now) (λ i. omega (arith, c .before .before .before .before .shared-slice-known .given i)) (omega arith) (a .sheet) (s .pre) _
+    _ _ (hand-on (a .out .now) (piece-at (a .sheet) (a .file .now) _ (c .before .before .enum-told2 .given .1)) (c .next-record .ensures))
 
 returns-3 : tie.Need-returns-3
-returns-3 c = let s = c .before .before .before in let a = s .args in piece-kept (a .file .now) (λ i. omega (arith, c .before .before .shared-slice-known .given i)) (omega arith) (a .sheet) (s .pre) _ _ _ (hand-on (a .out .now) (piece-at (a .sheet) (a .file .now) _ (c .enum-told3 .given .1)) (hand-back _ refl (put-none _ _)))
+returns-3 c =
+    let s = c .before .before .before in
+    let a = s .args in
+    piece-kept (a .file .now) (λ i. omega (arith, c .before .before .shared-slice-known .given i)) (omega arith) (a .sheet) (s .pre) _ _ _
+    (hand-on (a .out .now) (piece-at (a .sheet) (a .file .now) _ (c .enum-told3 .given .1)) (hand-back _ refl (put-none _ _)))
 
 pub next-spec : {M : Type 1} → statement M
 next-spec =

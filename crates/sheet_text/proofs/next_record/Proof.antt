@@ -14,11 +14,17 @@ use Rattle.sheet_text.proofs.next_record.Tie as tie
 
 -- a rest, or a vector, is whole
 
-rest-placed : (c : tie.After-known-told2) → Placed (length (c .before .before .before .before .before .args .file .now)) (c .before .before .before .before .before .args .sheet .at) (Rest (c .before .to .given .0 .0))
-rest-placed c = subst (Placed _ _) (sym (c .before .before .before .entry-at .ensures) ∙ c .before .to .given .1) (entry-placed (c .before .before .before .before .before .args .file .now) (c .before .before .before .before .before .args .sheet .at))
+rest-placed : (c : tie.After-known-told2)
+    → Placed (length (c .before .before .before .before .before .args .file .now)) (c .before .before .before .before .before .args .sheet .at) (Rest (c .before .to .given .0 .0))
+rest-placed c =
+    subst (Placed _ _) (sym (c .before .before .before .entry-at .ensures) ∙ c .before .to .given .1)
+    (entry-placed (c .before .before .before .before .before .args .file .now) (c .before .before .before .before .before .args .sheet .at))
 
-vector-placed : (c : tie.After-known-told3) → Placed (length (c .before .before .before .before .before .args .file .now)) (c .before .before .before .before .before .args .sheet .at) (Vector (c .before .to2 .given .0 .0))
-vector-placed c = subst (Placed _ _) (sym (c .before .before .before .entry-at .ensures) ∙ c .before .to2 .given .1) (entry-placed (c .before .before .before .before .before .args .file .now) (c .before .before .before .before .before .args .sheet .at))
+vector-placed : (c : tie.After-known-told3)
+    → Placed (length (c .before .before .before .before .before .args .file .now)) (c .before .before .before .before .before .args .sheet .at) (Vector (c .before .to2 .given .0 .0))
+vector-placed c =
+    subst (Placed _ _) (sym (c .before .before .before .entry-at .ensures) ∙ c .before .to2 .given .1)
+    (entry-placed (c .before .before .before .before .before .args .file .now) (c .before .before .before .before .before .args .sheet .at))
 
 entry-at-requires : tie.Need-entry-at-requires
 entry-at-requires c κs = search needs
@@ -69,19 +75,39 @@ part-vector-end : tie.Need-part-vector-end
 part-vector-end c = let p = vector-placed c in search needs
 
 vector-requires : tie.Need-vector-requires
-vector-requires c κs = let s = c .before .before .before .before .before .before .before in (s .pre .0, (s .pre .1, omega (arith, vector-placed (c .before .before) .0)))
+vector-requires c κs =
+    let s = c .before .before .before .before .before .before .before in (s .pre .0, (s .pre .1, omega (arith, vector-placed (c .before .before) .0)))
 
 returns : tie.Need-returns
-returns c = let a = c .before .before .before .before .before .args in hand-on (a .out .now) (ap (entryPiece (a .sheet) (a .file .now)) (sym (c .before .enum-told .given .1) ∙ c .before .before .before .entry-at .ensures)) (hand-back _ (c .end .ensures) (put-none _ _))
+returns c =
+    let a = c .before .before .before .before .before .args in
+    hand-on (a .out .now)
+    (ap (entryPiece (a .sheet) (a .file .now)) (sym (c .before .enum-told .given .1) ∙ c .before .before .before .entry-at .ensures))
+    (hand-back _ (c .end .ensures) (put-none _ _))
 
 returns-2 : tie.Need-returns-2
-returns-2 c = let a = c .before .before .before .before .before .before .before .args in hand-on (a .out .now) (ap (entryPiece (a .sheet) (a .file .now)) (sym (c .before .before .before .why .given .1) ∙ c .before .before .before .before .before .entry-at .ensures)) (c .refused .ensures)
+returns-2 c =
+    let a = c .before .before .before .before .before .before .before .args in
+    hand-on (a .out .now)
+    (ap (entryPiece (a .sheet) (a .file .now))
+    (sym (c .before .before .before .why .given .1) ∙ c .before .before .before .before .before .entry-at .ensures))
+    (c .refused .ensures)
 
 returns-3 : tie.Need-returns-3
-returns-3 c = let a = c .before .before .before .before .before .before .before .before .args in hand-on (a .out .now) (ap (entryPiece (a .sheet) (a .file .now)) (sym (c .before .before .before .before .to .given .1) ∙ c .before .before .before .before .before .before .entry-at .ensures)) (c .rest .ensures)
+returns-3 c =
+    let a = c .before .before .before .before .before .before .before .before .args in
+    hand-on (a .out .now)
+    (ap (entryPiece (a .sheet) (a .file .now))
+    (sym (c .before .before .before .before .to .given .1) ∙ c .before .before .before .before .before .before .entry-at .ensures))
+    (c .rest .ensures)
 
 returns-4 : tie.Need-returns-4
-returns-4 c = let a = c .before .before .before .before .before .before .before .before .args in hand-on (a .out .now) (ap (entryPiece (a .sheet) (a .file .now)) (sym (c .before .before .before .before .to2 .given .1) ∙ c .before .before .before .before .before .before .entry-at .ensures)) (c .vector .ensures)
+returns-4 c =
+    let a = c .before .before .before .before .before .before .before .before .args in
+    hand-on (a .out .now)
+    (ap (entryPiece (a .sheet) (a .file .now))
+    (sym (c .before .before .before .before .to2 .given .1) ∙ c .before .before .before .before .before .before .entry-at .ensures))
+    (c .vector .ensures)
 
 pub next-record-spec : {M : Type 1} → statement M
 next-record-spec =

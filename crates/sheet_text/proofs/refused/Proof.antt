@@ -12,7 +12,9 @@ end-requires : tie.Need-end-requires
 end-requires c κs = search needs
 
 returns : tie.Need-returns
-returns c = hand-back (refusal (c .before .before .before .args .sheet) (c .before .before .before .args .why)) (c .end .ensures) (c .before .put-refused .ensures)
+returns c =
+    hand-back (refusal (c .before .before .before .args .sheet) (c .before .before .before .args .why)) (c .end .ensures)
+    (c .before .put-refused .ensures)
 
 pub refused-spec : {M : Type 1} → statement M
 refused-spec = tie.close (tie.spec put-refused-requires end-requires returns)

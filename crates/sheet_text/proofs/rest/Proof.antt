@@ -21,10 +21,22 @@ enum-told : tie.Need-enum-told
 enum-told c = search needs
 
 returns : tie.Need-returns
-returns c = let a = c .before .before .before .before .before .before .before .before .args in hand-on (a .out .now) (refused-so (c .before .before .before .before .before .before .rest .result .answer) (a .sheet) _ _ (c .before .before .before .answer .given .1) ∙ ap (restPiece (a .sheet) (a .next)) (c .before .before .before .before .before .before .rest .ensures)) (c .refused .ensures)
+returns c =
+    let a = c .before .before .before .before .before .before .before .before .args in
+    hand-on (a .out .now)
+    (refused-so (c .before .before .before .before .before .before .rest .result .answer) (a .sheet) _ _ (c .before .before .before .answer .given .1)
+    ∙ ap (restPiece (a .sheet) (a .next)) (c .before .before .before .before .before .before .rest .ensures))
+    (c .refused .ensures)
 
 returns-2 : tie.Need-returns-2
-returns-2 c = let a = c .before .before .before .before .before .args in let m = c .before .before .before .rest .result in hand-on (a .out .now) (done-so (m .answer) (a .sheet) (record { text = []; after = moved (a .sheet) (m .session) (a .next) (a .sheet .vectors) }) _ (c .enum-told .given .1) ∙ ap (restPiece (a .sheet) (a .next)) (c .before .before .before .rest .ensures)) (hand-back _ refl (put-none _ _))
+returns-2 c =
+    let a = c .before .before .before .before .before .args in
+    let m = c .before .before .before .rest .result in
+    hand-on (a .out .now)
+    (done-so (m .answer) (a .sheet) (record { text = []; after = moved (a .sheet) (m .session) (a .next) (a .sheet .vectors) }) _
+    (c .enum-told .given .1)
+    ∙ ap (restPiece (a .sheet) (a .next)) (c .before .before .before .rest .ensures))
+    (hand-back _ refl (put-none _ _))
 
 pub rest-spec : {M : Type 1} → statement M
 rest-spec =

@@ -15,7 +15,11 @@ put-card-requires : tie.Need-put-card-requires
 put-card-requires c κs = search needs
 
 returns : tie.Need-returns
-returns c = let a = c .before .before .before .args in hand-back (record { text = cardText (a .session); after = opened (a .session) (a .at) }) (λ i. record { session = a .session; depth = c .before .before .depth-of .ensures i; at = a .at; vectors = 0; stage = Going }) (c .put-card .ensures)
+returns c =
+    let a = c .before .before .before .args in
+    hand-back (record { text = cardText (a .session); after = opened (a .session) (a .at) })
+    (λ i. record { session = a .session; depth = c .before .before .depth-of .ensures i; at = a .at; vectors = 0; stage = Going })
+    (c .put-card .ensures)
 
 pub taken-spec : {M : Type 1} → statement M
 taken-spec = tie.close (tie.spec depth-of-requires put-card-requires returns)

@@ -26,28 +26,44 @@ enum-told : tie.Need-enum-told
 enum-told c = search needs
 
 add-vectors : tie.Need-add-vectors
-add-vectors c = omega (arith, c .before .before .before .before .before .before .pre .0 .counted (c .before .before .before .before .before .before .pre .1 .0), c .before .before .before .before .before .before .pre .1 .1)
+add-vectors c =
+    omega (
+      arith,
+      c .before .before .before .before .before .before .pre .0 .counted (c .before .before .before .before .before .before .pre .1 .0),
+      c .before .before .before .before .before .before .pre .1 .1,
+    )
 
 put-vector-requires : tie.Need-put-vector-requires
-put-vector-requires c κs = 
+put-vector-requires c κs =
     let start = c .before .before .before .before .before .before .before in
     let s = start .args .sheet .session in
     let v = start .args .v .now in
-    let e = c .before .before .before .before .before .vector .ensures in
-    (subst (λ m. Good (m .session)) (sym e) (vector-good s (start .pre .0 .good) v),
-    (ap (λ m. m .session .rested) e ∙ vector-rests s v _ (ap (λ m. m .answer) (sym e) ∙ c .before .before .enum-told .given .1),
-    start .pre .0 .deep (start .pre .1 .0) ∙ ap depth (sym (ap (λ m. cardOf (m .session)) e ∙ vector-card s v))))
+    let e = c .before .before .before .before .before .vector .ensures in (
+      subst (λ m. Good (m .session)) (sym e) (vector-good s (start .pre .0 .good) v),
+      (
+        ap (λ m. m .session .rested) e ∙ vector-rests s v _ (ap (λ m. m .answer) (sym e) ∙ c .before .before .enum-told .given .1),
+        start .pre .0 .deep (start .pre .1 .0) ∙ ap depth (sym (ap (λ m. cardOf (m .session)) e ∙ vector-card s v)),
+      ),
+    )
 
 returns : tie.Need-returns
-returns c = let a = c .before .before .before .before .before .before .before .before .args in hand-on (a .out .now) (refused-so (c .before .before .before .before .before .before .vector .result .answer) (a .sheet) _ _ (c .before .before .before .answer .given .1) ∙ ap (vectorPiece (a .sheet) (a .next)) (c .before .before .before .before .before .before .vector .ensures)) (c .refused .ensures)
+returns c =
+    let a = c .before .before .before .before .before .before .before .before .args in
+    hand-on (a .out .now)
+    (refused-so (c .before .before .before .before .before .before .vector .result .answer) (a .sheet) _ _
+    (c .before .before .before .answer .given .1)
+    ∙ ap (vectorPiece (a .sheet) (a .next)) (c .before .before .before .before .before .before .vector .ensures))
+    (c .refused .ensures)
 
 returns-2 : tie.Need-returns-2
-returns-2 c = 
+returns-2 c =
     let a = c .before .before .before .before .before .before .before .before .args in
     let m = c .before .before .before .before .before .before .vector .result in
     let k = a .sheet .vectors + 1 in
     hand-on (a .out .now)
-    (done-so (m .answer) (a .sheet) (record { text = vectorText k (m .session); after = moved (a .sheet) (m .session) (a .next) k }) _ (c .before .before .before .enum-told .given .1) ∙ ap (vectorPiece (a .sheet) (a .next)) (c .before .before .before .before .before .before .vector .ensures))
+    (done-so (m .answer) (a .sheet) (record { text = vectorText k (m .session); after = moved (a .sheet) (m .session) (a .next) k }) _
+    (c .before .before .before .enum-told .given .1)
+    ∙ ap (vectorPiece (a .sheet) (a .next)) (c .before .before .before .before .before .before .vector .ensures))
     (hand-back _ refl (c .put-vector .ensures))
 
 pub vector-spec : {M : Type 1} → statement M

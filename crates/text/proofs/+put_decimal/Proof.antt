@@ -46,7 +46,8 @@ put-decimal-put-requires : (t : ℕ) → put-decimal-lts.Need-put-requires (
   put-decimal-below t,
   put-decimal.Post,
 ) (put-decimal-at t) put-decimal.Post
-put-decimal-put-requires t c κs = let s = c .before .before .before in omega (arith, s .pre .1, ap length (decimal-low (s .args .n) (c .before .before .if1 .taken)))
+put-decimal-put-requires t c κs =
+    let s = c .before .before .before in omega (arith, s .pre .1, ap length (decimal-low (s .args .n) (c .before .before .if1 .taken)))
 
 put-decimal-returns : (t : ℕ) → put-decimal-lts.Need-returns (
   digit-reads.Asked,
@@ -56,7 +57,9 @@ put-decimal-returns : (t : ℕ) → put-decimal-lts.Need-returns (
   put-decimal-below t,
   put-decimal.Post,
 ) (put-decimal-at t) put-decimal.Post
-put-decimal-returns t c = let s = c .before .before .before .before in put-same (ap (λ d. d ∷ []) (c .before .digit .ensures) ∙ sym (decimal-low (s .args .n) (c .before .before .before .if1 .taken))) (c .put .ensures)
+put-decimal-returns t c =
+    let s = c .before .before .before .before in
+    put-same (ap (λ d. d ∷ []) (c .before .digit .ensures) ∙ sym (decimal-low (s .args .n) (c .before .before .before .if1 .taken))) (c .put .ensures)
 
 put-decimal-put-decimal-requires : (t : ℕ) → put-decimal-lts.Need-put-decimal-requires (
   digit-reads.Asked,
@@ -66,7 +69,8 @@ put-decimal-put-decimal-requires : (t : ℕ) → put-decimal-lts.Need-put-decima
   put-decimal-below t,
   put-decimal.Post,
 ) (put-decimal-at t) put-decimal.Post
-put-decimal-put-decimal-requires t c κs = let s = c .before .before in (omega (arith, s .pre .0), omega (arith, s .pre .1, length-more (s .args .n) (c .before .if1 .left)))
+put-decimal-put-decimal-requires t c κs =
+    let s = c .before .before in (omega (arith, s .pre .0), omega (arith, s .pre .1, length-more (s .args .n) (c .before .if1 .left)))
 
 put-decimal-digit-requires-2 : (t : ℕ) → put-decimal-lts.Need-digit-requires-2 (
   digit-reads.Asked,
@@ -86,7 +90,9 @@ put-decimal-put-requires-2 : (t : ℕ) → put-decimal-lts.Need-put-requires-2 (
   put-decimal-below t,
   put-decimal.Post,
 ) (put-decimal-at t) put-decimal.Post
-put-decimal-put-requires-2 t c κs = let s = c .before .before .before .before .before in omega (arith, s .pre .1, length-more (s .args .n) (c .before .before .before .before .if1 .left), c .before .before .put-decimal .ensures .end-is)
+put-decimal-put-requires-2 t c κs =
+    let s = c .before .before .before .before .before in
+    omega (arith, s .pre .1, length-more (s .args .n) (c .before .before .before .before .if1 .left), c .before .before .put-decimal .ensures .end-is)
 
 put-decimal-returns-2 : (t : ℕ) → put-decimal-lts.Need-returns-2 (
   digit-reads.Asked,
@@ -96,7 +102,12 @@ put-decimal-returns-2 : (t : ℕ) → put-decimal-lts.Need-returns-2 (
   put-decimal-below t,
   put-decimal.Post,
 ) (put-decimal-at t) put-decimal.Post
-put-decimal-returns-2 t c = let s = c .before .before .before .before .before .before in put-same (ap (λ d. decimal (s .args .n / 10) ++ (d ∷ [])) (c .before .digit2 .ensures) ∙ sym (decimal-high (s .args .n) (c .before .before .before .before .before .if1 .left))) (put-then (c .before .before .before .put-decimal .ensures) (c .put2 .ensures))
+put-decimal-returns-2 t c =
+    let s = c .before .before .before .before .before .before in
+    put-same
+    (ap (λ d. decimal (s .args .n / 10) ++ (d ∷ [])) (c .before .digit2 .ensures)
+    ∙ sym (decimal-high (s .args .n) (c .before .before .before .before .before .if1 .left)))
+    (put-then (c .before .before .before .put-decimal .ensures) (c .put2 .ensures))
 
 pub +put-decimal-spec : {M : Type 1} → statement M
 +put-decimal-spec = close μ-put-decimal λ t. put-decimal-lts.spec (

@@ -14,7 +14,9 @@ put-word-requires : tie.Need-put-word-requires
 put-word-requires c κs = let a = c .before .before .args in omega (arith, length-append (a .word .now) (numbered (a .n) (a .after)))
 
 put-number-requires : tie.Need-put-number-requires
-put-number-requires c κs = let a = c .before .before .before .before .args in omega (arith, length-append (a .word .now) (numbered (a .n) (a .after)), c .before .put-word .ensures .end-is)
+put-number-requires c κs =
+    let a = c .before .before .before .before .args in
+    omega (arith, length-append (a .word .now) (numbered (a .n) (a .after)), c .before .put-word .ensures .end-is)
 
 returns : tie.Need-returns
 returns c = put-then (c .before .before .put-word .ensures) (c .put-number .ensures)

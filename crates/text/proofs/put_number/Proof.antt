@@ -15,7 +15,8 @@ put-decimal-requires : tie.Need-put-decimal-requires
 put-decimal-requires c κs = let a = c .before .args in omega (arith, length-append (decimal (a .n)) (a .after ∷ []))
 
 put-requires : tie.Need-put-requires
-put-requires c κs = let a = c .before .before .before .args in omega (arith, length-append (decimal (a .n)) (a .after ∷ []), c .before .put-decimal .ensures .end-is)
+put-requires c κs =
+    let a = c .before .before .before .args in omega (arith, length-append (decimal (a .n)) (a .after ∷ []), c .before .put-decimal .ensures .end-is)
 
 returns : tie.Need-returns
 returns c = put-then (c .before .before .put-decimal .ensures) (c .put .ensures)

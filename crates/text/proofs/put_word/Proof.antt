@@ -25,7 +25,9 @@ shared-slice-read-put : tie.Need-shared-slice-read-put Inv-loop μ-loop
 shared-slice-read-put c = search needs
 
 put-requires : tie.Need-put-requires Inv-loop μ-loop
-put-requires c κs = let l = c .before .before .before .loop in omega (arith, l .inv .1 .end-is, length-take-le (l .i) (c .before .before .before .before .before .args .word .now) (l .inv .0))
+put-requires c κs =
+    let l = c .before .before .before .loop in
+    omega (arith, l .inv .1 .end-is, length-take-le (l .i) (c .before .before .before .before .before .args .word .now) (l .inv .0))
 
 add-i : tie.Need-add-i Inv-loop μ-loop
 add-i c = search needs
@@ -34,7 +36,12 @@ loop-less : tie.Need-loop-less Inv-loop μ-loop
 loop-less c = search needs
 
 loop-again : tie.Need-loop-again Inv-loop μ-loop
-loop-again c = let l = c .before .before .before .before .loop in (omega arith, put-more (c .before .before .before .before .before .before .args .word .now) (l .i) (c .before .before .before .loop-test .taken) (l .inv .1) (c .put .ensures))
+loop-again c =
+    let l = c .before .before .before .before .loop in (
+      omega arith,
+      put-more (c .before .before .before .before .before .before .args .word .now) (l .i) (c .before .before .before .loop-test .taken)
+          (l .inv .1) (c .put .ensures),
+    )
 
 returns : tie.Need-returns Inv-loop μ-loop
 returns c = put-same (take-all _ _ (c .loop-test .left)) (c .before .loop .inv .1)

@@ -37,7 +37,14 @@ add-result : tie.Need-add-result Inv-loop μ-loop
 add-result c = search needs
 
 returns : tie.Need-returns Inv-loop μ-loop
-returns c = let l = c .before .before .before .before .before .loop in (sym (end-here (c .before .before .before .before .before .before .before .args .file .now) (l .at) _ _ (omega arith) (c .before .before .u16-at2 .ensures .0) (c .before .before .before .u16-at .ensures .0) (sym (c .before .is-end .ensures) ∙ c .if1 .taken)) ∙ l .inv .1, omega arith)
+returns c =
+    let l = c .before .before .before .before .before .loop in (
+      sym
+          (end-here (c .before .before .before .before .before .before .before .args .file .now) (l .at) _ _ (omega arith)
+          (c .before .before .u16-at2 .ensures .0) (c .before .before .before .u16-at .ensures .0) (sym (c .before .is-end .ensures) ∙ c .if1 .taken))
+          ∙ l .inv .1,
+      omega arith,
+    )
 
 add-at : tie.Need-add-at Inv-loop μ-loop
 add-at c = search needs
@@ -49,7 +56,14 @@ loop-less : tie.Need-loop-less Inv-loop μ-loop
 loop-less c = search needs
 
 loop-again : tie.Need-loop-again Inv-loop μ-loop
-loop-again c = let l = c .before .before .before .before .before .loop in (omega (arith, c .before .before .before .u16-at .ensures .1), sym (end-on (c .before .before .before .before .before .before .before .args .file .now) (l .at) _ _ (omega arith) (c .before .before .u16-at2 .ensures .0) (c .before .before .before .u16-at .ensures .0) (sym (c .before .is-end .ensures) ∙ c .if1 .left)) ∙ l .inv .1)
+loop-again c =
+    let l = c .before .before .before .before .before .loop in (
+      omega (arith, c .before .before .before .u16-at .ensures .1),
+      sym
+          (end-on (c .before .before .before .before .before .before .before .args .file .now) (l .at) _ _ (omega arith)
+          (c .before .before .u16-at2 .ensures .0) (c .before .before .before .u16-at .ensures .0) (sym (c .before .is-end .ensures) ∙ c .if1 .left))
+          ∙ l .inv .1,
+    )
 
 returns-2 : tie.Need-returns-2 Inv-loop μ-loop
 returns-2 c = let l = c .before .loop in (sym (end-none (c .before .before .before .args .file .now) (l .at) (omega arith)) ∙ l .inv .1, omega arith)

@@ -32,19 +32,29 @@ add-next-2 : tie.Need-add-next-2
 add-next-2 c = search needs
 
 returns-3 : tie.Need-returns-3
-returns-3 c = in-rest-cut _ _ _ _ (omega arith) (c .before .match .keys1) (c .if3 .taken) ∙ entry-as _ _ _ _ (c .before .before .u16-at2 .ensures .0) (c .before .before .before .u16-at .ensures .0)
+returns-3 c =
+    in-rest-cut _ _ _ _ (omega arith) (c .before .match .keys1) (c .if3 .taken)
+    ∙ entry-as _ _ _ _ (c .before .before .u16-at2 .ensures .0) (c .before .before .before .u16-at .ensures .0)
 
 returns-4 : tie.Need-returns-4
-returns-4 c = in-vector-cut _ _ _ _ (omega arith) (c .before .match .keys2) (c .if4 .taken) ∙ entry-as _ _ _ _ (c .before .before .u16-at2 .ensures .0) (c .before .before .before .u16-at .ensures .0)
+returns-4 c =
+    in-vector-cut _ _ _ _ (omega arith) (c .before .match .keys2) (c .if4 .taken)
+    ∙ entry-as _ _ _ _ (c .before .before .u16-at2 .ensures .0) (c .before .before .before .u16-at .ensures .0)
 
 returns-5 : tie.Need-returns-5
-returns-5 c = in-rest _ _ _ _ (omega arith) (c .before .match .keys1) (c .if3 .left) ∙ entry-as _ _ _ _ (c .before .before .u16-at2 .ensures .0) (c .before .before .before .u16-at .ensures .0)
+returns-5 c =
+    in-rest _ _ _ _ (omega arith) (c .before .match .keys1) (c .if3 .left)
+    ∙ entry-as _ _ _ _ (c .before .before .u16-at2 .ensures .0) (c .before .before .before .u16-at .ensures .0)
 
 returns-6 : tie.Need-returns-6
-returns-6 c = in-vector _ _ _ _ (omega arith) (c .before .match .keys2) (c .if4 .left) ∙ entry-as _ _ _ _ (c .before .before .u16-at2 .ensures .0) (c .before .before .before .u16-at .ensures .0)
+returns-6 c =
+    in-vector _ _ _ _ (omega arith) (c .before .match .keys2) (c .if4 .left)
+    ∙ entry-as _ _ _ _ (c .before .before .u16-at2 .ensures .0) (c .before .before .before .u16-at .ensures .0)
 
 returns-7 : tie.Need-returns-7
-returns-7 c = in-kind _ _ _ _ (omega arith) (λ e. c .match .rest .0 .1 e) (λ e. c .match .rest .1 e) ∙ entry-as _ _ _ _ (c .before .u16-at2 .ensures .0) (c .before .before .u16-at .ensures .0)
+returns-7 c =
+    in-kind _ _ _ _ (omega arith) (λ e. c .match .rest .0 .1 e) (λ e. c .match .rest .1 e)
+    ∙ entry-as _ _ _ _ (c .before .u16-at2 .ensures .0) (c .before .before .u16-at .ensures .0)
 
 pub entry-at-spec : {M : Type 1} → statement M
 entry-at-spec =

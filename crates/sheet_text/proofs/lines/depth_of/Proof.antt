@@ -14,7 +14,9 @@ highest-of-requires : tie.Need-highest-of-requires
 highest-of-requires c κs = few (c .before .before .before .before .before .args .t1) (c .before .before .before .before .before .pre)
 
 returns : tie.Need-returns
-returns c = let s = c .before .before .before .before .before .before in c .highest-of .ensures ∙ ap (λ xs. highest xs (s .args .t1 .nets)) (c .before .before .gates-back .ensures) ∙ depth-is (s .args .t1) (s .pre)
+returns c =
+    let s = c .before .before .before .before .before .before in
+    c .highest-of .ensures ∙ ap (λ xs. highest xs (s .args .t1 .nets)) (c .before .before .gates-back .ensures) ∙ depth-is (s .args .t1) (s .pre)
 
 pub depth-of-spec : {M : Type 1} → statement M
 depth-of-spec = tie.close (tie.spec gates-back-requires highest-of-requires returns)

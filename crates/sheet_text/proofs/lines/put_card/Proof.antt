@@ -24,11 +24,26 @@ steps-of-requires : tie.Need-steps-of-requires
 steps-of-requires c κs = search needs
 
 put-named-requires-2 : tie.Need-put-named-requires-2
-put-named-requires-2 c κs = omega (arith, c .before .before .before .put-named .ensures .end-is, word-short (c .before .before .before .before .before .before .args .depth) blank (omega arith), word-short (c .steps-of .result) lf (omega (arith, c .steps-of .ensures, card-steps (c .before .before .before .before .before .before .args .s) (c .before .before .before .before .before .before .pre .0))))
+put-named-requires-2 c κs =
+    omega (
+      arith,
+      c .before .before .before .put-named .ensures .end-is,
+      word-short (c .before .before .before .before .before .before .args .depth) blank
+          (omega arith),
+      word-short (c .steps-of .result) lf
+          (omega (
+            arith,
+            c .steps-of .ensures,
+            card-steps (c .before .before .before .before .before .before .args .s)
+                (c .before .before .before .before .before .before .pre .0),
+          )),
+    )
 
 returns : tie.Need-returns
 unfolding cardText firstLine
-returns c = put-same (ap₂ firstLine (c .before .before .before .before .before .before .before .pre .1) (c .before .steps-of .ensures)) (put-then (c .before .before .before .before .put-named .ensures) (c .put-named2 .ensures))
+returns c =
+    put-same (ap₂ firstLine (c .before .before .before .before .before .before .before .pre .1) (c .before .steps-of .ensures))
+    (put-then (c .before .before .before .before .put-named .ensures) (c .put-named2 .ensures))
 
 pub put-card-spec : {M : Type 1} → statement M
 put-card-spec =

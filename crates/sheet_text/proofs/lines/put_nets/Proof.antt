@@ -18,7 +18,8 @@ abbrev lineIn : ℕ → List ℕ → List ℕ → List ℕ → ℕ → List ℕ
 lineIn depth words befores flags i = netLine depth i (getD befores i 0) (getD words i 0) (getD flags i 0)
 
 abbrev Inv-loop : tie.InvT-loop
-Inv-loop out₀ at depth n words befores flags end₀ i₀ out end i = (i ≤ n) × Put (each (lineIn depth words befores flags) (from 0 i)) out₀ at out end × (end ≤ at + 77 * i)
+Inv-loop out₀ at depth n words befores flags end₀ i₀ out end i =
+    (i ≤ n) × Put (each (lineIn depth words befores flags) (from 0 i)) out₀ at out end × (end ≤ at + 77 * i)
 
 abbrev μ-loop : tie.MeasureT-loop
 μ-loop out₀ at depth n words befores flags end₀ i₀ out end i = n - i
@@ -39,7 +40,12 @@ element-copy-out-put-net-3 : tie.Need-element-copy-out-put-net-3 Inv-loop μ-loo
 element-copy-out-put-net-3 c = search needs
 
 put-net-requires : tie.Need-put-net-requires Inv-loop μ-loop
-put-net-requires c κs = (c .before .before .before .before .before .before .pre .0, omega (arith, c .before .before .before .before .before .before .pre .1), omega (arith, c .before .before .before .before .before .before .pre .2, c .before .before .before .before .before .loop .inv .2))
+put-net-requires c κs = (
+  c .before .before .before .before .before .before .pre .0,
+  omega (arith, c .before .before .before .before .before .before .pre .1),
+  omega
+      (arith, c .before .before .before .before .before .before .pre .2, c .before .before .before .before .before .loop .inv .2),
+)
 
 add-i : tie.Need-add-i Inv-loop μ-loop
 add-i c = search needs
@@ -50,8 +56,12 @@ loop-less c = search needs
 loop-again : tie.Need-loop-again Inv-loop μ-loop
 loop-again c =
     let a = c .before .before .before .before .before .before .before .args in
-    let l = c .before .before .before .before .before .before .loop in
-    (omega arith, lines-more (lineIn (a .depth) (a .words .now) (a .befores .now) (a .flags .now)) (l .i) (l .inv .1) (c .put-net .ensures .0), omega (arith, l .inv .2, c .put-net .ensures .1))
+    let l = c .before .before .before .before .before .before .loop in (
+      omega arith,
+      lines-more (lineIn (a .depth) (a .words .now) (a .befores .now) (a .flags .now)) (l .i) (l .inv .1) (c .put-net .ensures .0),
+      omega
+          (arith, l .inv .2, c .put-net .ensures .1),
+    )
 
 returns : tie.Need-returns Inv-loop μ-loop
 returns c =

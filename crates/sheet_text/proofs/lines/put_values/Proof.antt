@@ -36,7 +36,13 @@ value-byte-requires : tie.Need-value-byte-requires Inv-loop μ-loop
 value-byte-requires c κs = search needs
 
 put-requires : tie.Need-put-requires Inv-loop μ-loop
-put-requires c κs = omega (arith, c .before .before .before .before .loop .inv .1 .end-is, length-listed (shown (c .before .before .before .before .before .args .word)) (c .before .before .before .before .loop .t))
+put-requires c κs =
+    omega (
+      arith,
+      c .before .before .before .before .loop .inv .1 .end-is,
+      length-listed (shown (c .before .before .before .before .before .args .word))
+          (c .before .before .before .before .loop .t),
+    )
 
 add-t : tie.Need-add-t Inv-loop μ-loop
 add-t c = search needs
@@ -45,11 +51,18 @@ loop-less : tie.Need-loop-less Inv-loop μ-loop
 loop-less c = search needs
 
 loop-again : tie.Need-loop-again Inv-loop μ-loop
-loop-again c = (omega arith, values-more (shown (c .before .before .before .before .before .before .args .word)) (c .before .before .before .before .before .loop .t) (c .before .value-byte .ensures ∙ ap (λ b. digit (val b)) (c .before .before .has .ensures)) (c .before .before .before .before .before .loop .inv .1) (c .put .ensures))
+loop-again c = (
+  omega arith,
+  values-more (shown (c .before .before .before .before .before .before .args .word))
+      (c .before .before .before .before .before .loop .t) (c .before .value-byte .ensures ∙ ap (λ b. digit (val b)) (c .before .before .has .ensures))
+      (c .before .before .before .before .before .loop .inv .1) (c .put .ensures),
+)
 
 returns : tie.Need-returns Inv-loop μ-loop
 unfolding values
-returns c = let e : c .before .loop .t ≡ c .before .before .args .depth + 1 = omega arith in put-same (ap (listed (shown (c .before .before .args .word))) e) (c .before .loop .inv .1)
+returns c =
+    let e : c .before .loop .t ≡ c .before .before .args .depth + 1 = omega arith in
+    put-same (ap (listed (shown (c .before .before .args .word))) e) (c .before .loop .inv .1)
 
 pub put-values-spec : {M : Type 1} → statement M
 put-values-spec =

@@ -35,10 +35,18 @@ slice-aggregate-put-named : tie.Need-slice-aggregate-put-named
 slice-aggregate-put-named c = search needs
 
 put-named-requires : tie.Need-put-named-requires
-put-named-requires c κs = omega (arith, word-short (c .before .before .before .before .before .before .before .before .before .args .number) lf (omega arith))
+put-named-requires c κs =
+    omega (arith, word-short (c .before .before .before .before .before .before .before .before .before .args .number) lf (omega arith))
 
 put-nets-requires : tie.Need-put-nets-requires
-put-nets-requires c κs = let s = c .before .before .before .before .before .before .before .before .before .before .before .before .before .before in let h = holds (s .args .s) (s .pre .0) (s .pre .1 .0) in (omega (arith, s .pre .1 .1, card-depth (s .args .s) h), few (s .args .s) h, omega (arith, few (s .args .s) h, c .before .before .before .before .put-named .ensures .end-is, word-short (s .args .number) lf (omega arith)))
+put-nets-requires c κs =
+    let s = c .before .before .before .before .before .before .before .before .before .before .before .before .before .before in
+    let h = holds (s .args .s) (s .pre .0) (s .pre .1 .0) in (
+      omega (arith, s .pre .1 .1, card-depth (s .args .s) h),
+      few (s .args .s) h,
+      omega
+          (arith, few (s .args .s) h, c .before .before .before .before .put-named .ensures .end-is, word-short (s .args .number) lf (omega arith)),
+    )
 
 returns : tie.Need-returns
 unfolding vectorText
@@ -47,7 +55,10 @@ returns c =
     let s = start .args .s in
     let h = holds s (start .pre .0) (start .pre .1 .0) in
     put-same
-    (ap (λ xs. named vectorWord (start .args .number) lf ++ xs) (lines-are s h (start .pre .1 .0) _ _ _ _ (c .before .before .before .before .before .before .before .before .before .before .before .history .ensures) (start .args .depth) (start .pre .1 .1)))
+    (ap (λ xs. named vectorWord (start .args .number) lf ++ xs)
+    (lines-are s h (start .pre .1 .0) _ _ _ _
+    (c .before .before .before .before .before .before .before .before .before .before .before .history .ensures) (start .args .depth)
+    (start .pre .1 .1)))
     (put-then (c .before .before .before .before .before .put-named .ensures) (c .put-nets .ensures))
 
 pub put-vector-spec : {M : Type 1} → statement M
