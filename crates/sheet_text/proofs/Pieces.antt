@@ -1,12 +1,11 @@
 -- The theorem of the sheet: the pieces, one after another, are the sheet of the file, for every byte string, and they end. Assumes nothing.
 use mathlib.Core.Path.{_≡_, refl, sym, ap, _∙_, subst}
 use mathlib.Core.Bool.{Bool, true, false, cond}
-use mathlib.Core.List.{List, [], _∷_, _++_, append-nil}
-use Prim.Native.Nat.{ℕ, zero, suc, _+_, _-_, _≤_, _<_}
+use mathlib.Core.List.{List, [], _++_, append-nil}
+use Prim.Native.Nat.{ℕ, zero, suc, _+_, _-_, _≤_}
 use native.Mathlib.Omega.{arith}
 use lib.Dec.{ltb}
 use lib.ListN.{length, take}
-use lib.Seq.{sets, sets-eq, take-at}
 use Rattle.rule.specs.Level.{depth}
 use Rattle.rule.specs.declared.Refusal.{Refusal}
 use Rattle.rule.specs.declared.Refusal.the-variants.{NoRoom}
@@ -25,7 +24,7 @@ use Rattle.sheet_text.specs.declared.Sheet.{Sheet}
 use Rattle.sheet_text.specs.Lines.{cardText, vectorText}
 use Rattle.sheet_text.specs.Walk.{cardEnd, entryAt, body}
 use Rattle.sheet_text.specs.Sheet.{unlessRefused, entryText, recordsText, loadedText, sheetOf}
-use Rattle.sheet_text.specs.Pieces.{fresh, ended, Portion, refusal, pieceUnless, loadedPiece, cardPiece, entryPiece, pieceAt, pieceOf, written, texts, afterPieces, leftAt, left}
+use Rattle.sheet_text.specs.Pieces.{fresh, ended, Portion, refusal, pieceUnless, loadedPiece, cardPiece, entryPiece, pieceAt, pieceOf, texts, afterPieces, leftAt, left}
 use Rattle.sheet_text.proofs.Standing.{Placed, entry-placed, entry-past, piece-falls}
 
 module _ (file : List ℕ) where
@@ -92,7 +91,8 @@ module _ (file : List ℕ) where
       loaded = loadOf none (take (cardEnd file) file)
 
       go : (b : Bool)
-          → said n (cond b (refusal fresh NoRoom) (loadedPiece fresh (cardEnd file) loaded)) ≡ cond b (refusal fresh NoRoom .text) (loadedText file loaded)
+          → said n (cond b (refusal fresh NoRoom) (loadedPiece fresh (cardEnd file) loaded))
+          ≡ cond b (refusal fresh NoRoom .text) (loadedText file loaded)
       go true = refused-ends n fresh NoRoom
       go false =
           answered n (loaded .answer) fresh _ _
