@@ -1,11 +1,11 @@
 -- What the first line says of a session's card, and the lines of its histories from the slices that history fills. Assumes nothing.
-use mathlib.Core.Path.{_≡_, refl, sym, ap, ap₂, _∙_, subst}
+use mathlib.Core.Path.{_≡_, ap, ap₂, _∙_}
 use mathlib.Core.Bool.{true}
 use mathlib.Core.List.{List}
 use Prim.Native.Nat.{ℕ, _+_, _≤_, _<_}
 use native.Mathlib.Omega.{arith}
 use lib.ListN.{length, getD, replicate, length-replicate}
-use Rattle.lists.specs.Entries.{_∈_, each, from}
+use Rattle.lists.specs.Entries.{each, from}
 use Rattle.lists.specs.Listed.{listed}
 use Rattle.lists.proofs.Joined.{out-from, each-ext}
 use Rattle.word.specs.Word.{val}

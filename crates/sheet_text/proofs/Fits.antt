@@ -1,16 +1,16 @@
 -- Every piece fits the page. Assumes nothing.
 use mathlib.Core.Path.{_≡_, refl, sym, ap, _∙_, subst}
 use mathlib.Core.Bool.{Bool, true, false, cond, Bool·beq}
-use mathlib.Core.List.{List, [], _∷_, _++_, List·Memᴰ·head, List·Memᴰ·tail}
+use mathlib.Core.List.{List, [], _∷_, List·Memᴰ·head, List·Memᴰ·tail}
 use Prim.Native.Nat.{ℕ, _+_, _*_, _^_, _≤_, _<_}
 use native.Mathlib.Omega.{arith}
 use lib.Dec.{eqb, ltb, lit<}
 use lib.ListN.{length, take, length-append}
-use lib.Seq.{sets, sets-eq, length-sets, take-at}
+use lib.Seq.{sets-eq, length-sets, take-at}
 use Rattle.lists.specs.Entries.{_∈_, each, from}
 use Rattle.lists.proofs.Joined.{length-from, out-from}
 use Rattle.word.specs.Word.{val}
-use Rattle.text.specs.Text.{named, numbered}
+use Rattle.text.specs.Text.{named}
 use Rattle.rule.specs.Flag.{changes, flagOf}
 use Rattle.rule.specs.Level.{depth}
 use Rattle.rule.specs.Steps.{stepList}

@@ -1,16 +1,16 @@
 -- The lines: how long they are, and lines put one after another. Assumes nothing.
-use mathlib.Core.Path.{_≡_, refl, sym, ap, _∙_, subst}
+use mathlib.Core.Path.{_≡_, sym, ap, _∙_}
 use mathlib.Core.List.{List, [], _∷_, _++_, append-nil}
-use Prim.Native.Nat.{ℕ, suc, _+_, _*_, _^_, _≤_, _<_}
+use Prim.Native.Nat.{ℕ, _+_, _^_, _≤_, _<_}
 use native.Mathlib.Omega.{arith}
 use native.Mathlib.Numerals.{add-one}
-use lib.ListN.{length, getD, length-append, replicate, length-replicate}
-use Rattle.lists.specs.Entries.{_∈_, each, from}
+use lib.ListN.{length, length-append}
+use Rattle.lists.specs.Entries.{each, from}
 use Rattle.lists.specs.Listed.{listed}
-use Rattle.lists.proofs.Joined.{from-more, out-from, each-append, each-ext}
+use Rattle.lists.proofs.Joined.{from-more, each-append}
 use Rattle.lists.proofs.Listed.{length-listed, listed-more}
 use Rattle.word.specs.Word.{bit, val}
-use Rattle.text.specs.Text.{digit, decimal, numbered, named, Put}
+use Rattle.text.specs.Text.{digit, decimal, numbered, Put}
 use Rattle.text.proofs.Texts.{put-then, put-same, decimal-short}
 use Rattle.sheet_text.specs.Lines.{blank, lf, values, netLine}
 

@@ -1,8 +1,8 @@
 pub mod Lengths
 pub mod Cards
 pub mod Walks
+pub mod Splits
 pub mod Steps
 pub mod Standing
-pub mod Pieces
 pub mod Fits
-pub mod Splits
+pub mod Pieces

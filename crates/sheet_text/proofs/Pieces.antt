@@ -1,17 +1,17 @@
 -- The theorem of the sheet: the pieces, one after another, are the sheet of the file, for every byte string, and they end. Assumes nothing.
-use mathlib.Core.Path.{_≡_, refl, sym, ap, _∙_, subst}
+use mathlib.Core.Path.{_≡_, refl, sym, ap, ap₂, _∙_, subst}
 use mathlib.Core.Bool.{Bool, true, false, cond}
-use mathlib.Core.List.{List, [], _∷_, _++_, append-nil}
-use Prim.Native.Nat.{ℕ, zero, suc, _+_, _-_, _≤_, _<_}
+use mathlib.Core.List.{List, [], _++_, append-nil}
+use Prim.Native.Nat.{ℕ, zero, suc, _+_, _-_, _^_, _≤_, _<_}
 use native.Mathlib.Omega.{arith}
 use lib.Dec.{ltb}
 use lib.ListN.{length, take}
-use lib.Seq.{sets, sets-eq, take-at}
 use Rattle.rule.specs.Level.{depth}
 use Rattle.rule.specs.declared.Refusal.{Refusal}
 use Rattle.rule.specs.declared.Refusal.the-variants.{NoRoom}
 use Rattle.rule.specs.declared.Answer.{Answer}
 use Rattle.rule.specs.declared.Answer.the-variants.{Done, Refused}
+use Rattle.records.specs.Written.{Bytes}
 use Rattle.card.specs.declared.Session.{Session}
 use Rattle.card.specs.declared.Loaded.{Loaded}
 use Rattle.card.specs.Session.{none, cardOf}
@@ -25,8 +25,9 @@ use Rattle.sheet_text.specs.declared.Sheet.{Sheet}
 use Rattle.sheet_text.specs.Lines.{cardText, vectorText}
 use Rattle.sheet_text.specs.Walk.{cardEnd, entryAt, body}
 use Rattle.sheet_text.specs.Sheet.{unlessRefused, entryText, recordsText, loadedText, sheetOf}
-use Rattle.sheet_text.specs.Pieces.{fresh, ended, Portion, refusal, pieceUnless, loadedPiece, cardPiece, entryPiece, pieceAt, pieceOf, written, texts, afterPieces, leftAt, left}
-use Rattle.sheet_text.proofs.Standing.{Placed, entry-placed, entry-past, piece-falls}
+use Rattle.sheet_text.specs.Pieces.{fresh, ended, Portion, refusal, pieceUnless, loadedPiece, cardPiece, entryPiece, pieceAt, pieceOf, written, texts, wrote, afterPieces, Standing, leftAt, left}
+use Rattle.sheet_text.proofs.Standing.{Placed, entry-placed, entry-past, fresh-stands, piece-stands, piece-falls}
+use Rattle.sheet_text.proofs.Fits.{piece-fits, piece-read, page-stays, sheet-after}
 
 module _ (file : List ℕ) where
   -- a sheet that is over says no more
@@ -92,7 +93,8 @@ module _ (file : List ℕ) where
       loaded = loadOf none (take (cardEnd file) file)
 
       go : (b : Bool)
-          → said n (cond b (refusal fresh NoRoom) (loadedPiece fresh (cardEnd file) loaded)) ≡ cond b (refusal fresh NoRoom .text) (loadedText file loaded)
+          → said n (cond b (refusal fresh NoRoom) (loadedPiece fresh (cardEnd file) loaded))
+          ≡ cond b (refusal fresh NoRoom .text) (loadedText file loaded)
       go true = refused-ends n fresh NoRoom
       go false =
           answered n (loaded .answer) fresh _ _
@@ -127,3 +129,18 @@ module _ (file : List ℕ) where
   pub pieces-end : afterPieces (length file + 2) fresh file .stage ≡ Over
   unfolding left fresh
   pieces-end = ends-within (length file + 2) fresh (omega arith)
+
+-- The same of the bytes that are written: of each page the front that `next` filled, whatever the page held before.
+module _ (file : List ℕ) (bytes : Bytes file) (size : length file < 2 ^ 64) where
+  wrote-texts : (n : ℕ) (sheet : Sheet) (page : List ℕ) → Standing sheet → length page ≡ 20480 → wrote n sheet file page ≡ texts n sheet file
+  unfolding wrote texts
+  wrote-texts zero sheet page s l = refl
+  wrote-texts (suc n) sheet page s l =
+      let p = pieceOf sheet file in
+      let w = written p page in
+      ap₂ _++_ (piece-read p page (omega (arith, piece-fits file bytes size sheet s)))
+      (ap (λ x. wrote n x file (w .page)) (sheet-after p page (w .page) (w .piece) refl)
+      ∙ wrote-texts n (p .after) (w .page) (piece-stands file bytes sheet s) (page-stays p page (w .page) (w .piece) refl ∙ l))
+
+  pub sheet-written : (n : ℕ) (page : List ℕ) → length page ≡ 20480 → length file + 2 ≤ n → wrote n fresh file page ≡ sheetOf file
+  sheet-written n page l h = wrote-texts n fresh page fresh-stands l ∙ sheet-pieces file n h

@@ -1,8 +1,8 @@
 -- A session file that starts with a card as it is written: exactly the card is loaded, whatever stands after it. Assumes nothing.
-use mathlib.Core.Path.{_≡_, refl, sym, ap, ap₂, _∙_, subst}
+use mathlib.Core.Path.{_≡_, refl, sym, ap, ap₂, _∙_}
 use mathlib.Core.Bool.{false}
 use mathlib.Core.List.{List, [], _∷_, _++_, append-assoc}
-use Prim.Native.Nat.{ℕ, _+_, _*_, _/_, _%_, _≤_}
+use Prim.Native.Nat.{ℕ, _+_, _/_, _%_, _≤_}
 use native.Mathlib.Omega.{arith}
 use lib.ListN.{length, getD, take, drop, length-append, length-drop}
 use lib.Seq.{getD-drop, drop-drop, drop-append-seam, take-append-seam}
@@ -14,7 +14,7 @@ use Rattle.rule.specs.Steps.{stepList}
 use Rattle.wiring.specs.Layout.{kindOf}
 use Rattle.records.specs.Bytes.{u16At}
 use Rattle.records.specs.Written.{two, recordOf, bodyOf, netBytes, endBytes, cardBytes, Bytes}
-use Rattle.card.specs.Session.{none, cardOf, sessionOf}
+use Rattle.card.specs.Session.{none, sessionOf}
 use Rattle.card.specs.Load.{loadOf}
 use Rattle.card.specs.Allowed.{Accepted}
 use Rattle.card.proofs.Kept.{session-card}
@@ -104,5 +104,6 @@ module _ (c : List Net) (later : List ℕ) where
       first : cardText (sessionOf c) ≡ firstLine (depth c) (length (stepList c))
       first = card-said c a
 
-      said : loadedText file (taken c) ≡ firstLine (depth c) (length (stepList c)) ++ recordsText (length file) file (length (cardBytes c)) (sessionOf c) 0
+      said : loadedText file (taken c)
+          ≡ firstLine (depth c) (length (stepList c)) ++ recordsText (length file) file (length (cardBytes c)) (sessionOf c) 0
       said = taken-said c file ∙ ap₂ (λ x n. x ++ recordsText (length file) file n (sessionOf c) 0) first card-ends

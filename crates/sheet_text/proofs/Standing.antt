@@ -1,14 +1,13 @@
 -- What every step keeps, how far it moves on, and that its text fits the page. Assumes nothing.
-use mathlib.Core.Path.{_≡_, refl, sym, ap, _∙_, subst}
+use mathlib.Core.Path.{_≡_, refl, sym, ap, _∙_}
 use mathlib.Core.Bool.{Bool, true, false, cond, true≢false}
-use mathlib.Core.List.{List, [], _∷_, _++_}
-use Prim.Native.Nat.{ℕ, zero, suc, _+_, _-_, _*_, _^_, _≤_, _<_}
+use mathlib.Core.List.{List}
+use Prim.Native.Nat.{ℕ, _+_, _-_, _≤_, _<_}
 use native.Mathlib.Omega.{arith}
 use lib.Dec.{eqb, leb, ltb}
-use lib.ListN.{length, take, length-append}
+use lib.ListN.{length, take}
 use borrow.Author.Tests.{ltb-false, le-leb}
 use Rattle.rule.specs.Level.{depth}
-use Rattle.rule.specs.declared.Refusal.{Refusal}
 use Rattle.rule.specs.declared.Refusal.the-variants.{CutShort, BadRecord, NoRoom}
 use Rattle.rule.specs.declared.Answer.{Answer}
 use Rattle.rule.specs.declared.Answer.the-variants.{Done, Refused}
@@ -18,7 +17,6 @@ use Rattle.card.specs.declared.Session.{Session}
 use Rattle.card.specs.declared.Loaded.{Loaded}
 use Rattle.card.specs.Session.{none, cardOf}
 use Rattle.card.specs.Load.{loadOf}
-use Rattle.session.specs.declared.Moved.{Moved}
 use Rattle.session.specs.Good.{Good}
 use Rattle.session.specs.Moves.{restOf, vectorOf}
 use Rattle.session.proofs.Kept.{none-good, load-good, rest-good, vector-good}
@@ -27,8 +25,8 @@ use Rattle.sheet_text.specs.declared.Entry.the-variants.{Nothing, Bad, R
 use Rattle.sheet_text.specs.declared.Stage.{Stage}
 use Rattle.sheet_text.specs.declared.Stage.the-variants.{Fresh, Going, Over}
 use Rattle.sheet_text.specs.declared.Sheet.{Sheet}
-use Rattle.sheet_text.specs.Walk.{cardEnd, whole, entryIn, entryAt, body}
-use Rattle.sheet_text.specs.Pieces.{fresh, ended, moved, opened, Portion, refusal, pieceUnless, loadedPiece, cardPiece, restPiece, vectorPiece, entryPiece, pieceAt, pieceOf, Standing, leftAt, left, isOver}
+use Rattle.sheet_text.specs.Walk.{cardEnd, entryIn, entryAt, body}
+use Rattle.sheet_text.specs.Pieces.{fresh, ended, moved, Portion, refusal, pieceUnless, loadedPiece, cardPiece, entryPiece, pieceAt, pieceOf, Standing, leftAt, left, isOver}
 use Rattle.sheet_text.proofs.Steps.{bytes-front, rest-card, vector-card}
 
 -- a rest or a vector is whole: it ends after its head, and inside the file
@@ -87,6 +85,11 @@ unless-stands : (a : Answer) (sheet : Sheet) (p : Portion) → Good (sheet .sess
 unless-stands (Done k) sheet p g s = s
 unless-stands (Refused why) sheet p g s = over-stands sheet g
 
+moved-stands : (sheet : Sheet) → Standing sheet → sheet .stage ≡ Going → (s : Session) → Good s → cardOf s ≡ cardOf (sheet .session)
+    → (next vectors : ℕ)
+    → vectors ≤ next → Standing (moved sheet s next vectors)
+moved-stands sheet t q s good same next vectors l = record { good = good; deep = λ e. t .deep q ∙ ap depth (sym same); counted = λ e. l }
+
 module _ (file : List ℕ) (bytes : Bytes file) where
   card-stands : (sheet : Sheet) → Good (sheet .session) → Standing (cardPiece sheet file .after)
   unfolding cardPiece
@@ -99,8 +102,11 @@ module _ (file : List ℕ) (bytes : Bytes file) where
       go true = over-stands sheet g
       go false =
           unless-stands (l .answer) sheet _ g
-          (record
-          { good = load-good none (take (cardEnd file) file) none-good (bytes-front (cardEnd file) file bytes); deep = λ e. refl; counted = λ e. omega arith })
+          (record {
+            good = load-good none (take (cardEnd file) file) none-good (bytes-front (cardEnd file) file bytes);
+            deep = λ e. refl;
+            counted = λ e. omega arith;
+          })
 
   entry-stands : (sheet : Sheet) → Standing sheet → sheet .stage ≡ Going → (e : Entry) → Placed (length file) (sheet .at) e
       → Standing (entryPiece sheet file e .after)
@@ -109,13 +115,11 @@ module _ (file : List ℕ) (bytes : Bytes file) where
   entry-stands sheet s q (Rest next) p =
       let v = body file (sheet .at) next in
       unless-stands (restOf (sheet .session) v .answer) sheet _ (s .good)
-      (record
-      { good = rest-good (sheet .session) (s .good) v; deep = λ e. s .deep q ∙ ap depth (sym (rest-card (sheet .session) v)); counted = λ e. omega (arith, s .counted q, p .0) })
+      (moved-stands sheet s q _ (rest-good (sheet .session) (s .good) v) (rest-card (sheet .session) v) next _ (omega (arith, s .counted q, p .0)))
   entry-stands sheet s q (Vector next) p =
       let v = body file (sheet .at) next in
       unless-stands (vectorOf (sheet .session) v .answer) sheet _ (s .good)
-      (record
-      { good = vector-good (sheet .session) (s .good) v; deep = λ e. s .deep q ∙ ap depth (sym (vector-card (sheet .session) v)); counted = λ e. omega (arith, s .counted q, p .0) })
+      (moved-stands sheet s q _ (vector-good (sheet .session) (s .good) v) (vector-card (sheet .session) v) next _ (omega (arith, s .counted q, p .0)))
 
   pub piece-stands : (sheet : Sheet) → Standing sheet → Standing (pieceOf sheet file .after)
   unfolding pieceOf

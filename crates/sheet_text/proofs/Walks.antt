@@ -1,17 +1,16 @@
 -- The walk along the heads to the end of the card, and the record at a place after it. Assumes nothing.
-use mathlib.Core.Path.{_≡_, refl, sym, ap, ap₂, _∙_, subst}
+use mathlib.Core.Path.{_≡_, refl, sym, ap, ap₂, _∙_}
 use mathlib.Core.Bool.{true, false, cond}
 use mathlib.Core.List.{List}
 use Prim.Native.Nat.{ℕ, zero, suc, _+_, _≤_, _<_}
 use native.Mathlib.Omega.{arith}
-use lib.Dec.{eqb, leb, ltb}
+use lib.Dec.{ltb}
 use lib.ListN.{length}
 use borrow.Author.Tests.{lt-ltb, le-ltb, le-leb, lt-leb, eq-eqb, ne-eqb}
 use Rattle.rule.specs.declared.Refusal.the-variants.{CutShort, BadRecord}
 use Rattle.records.specs.Bytes.{u16At}
-use Rattle.sheet_text.specs.declared.Entry.{Entry}
 use Rattle.sheet_text.specs.declared.Entry.the-variants.{Nothing, Bad, Rest, Vector}
-use Rattle.sheet_text.specs.Walk.{isEnd, endFrom, cardEnd, whole, entryIn, entryAt}
+use Rattle.sheet_text.specs.Walk.{isEnd, endFrom, cardEnd, entryIn, entryAt}
 
 module _ (file : List ℕ) where
   -- a head takes a byte at least: with a turn for each byte that is left, more turns change nothing

@@ -97,11 +97,19 @@ pub record Written : Type 0 where
 unfoldable pub written : Portion → List ℕ → Written
 written p page = record { piece = record { sheet = p .after; length = length (p .text) }; page = sets page 0 (p .text) }
 
--- the texts of the first n pieces from a sheet on, one after another, and the sheet after them
+-- the texts of the first n pieces from a sheet on, one after another
 unfoldable pub texts : ℕ → Sheet → List ℕ → List ℕ
 texts zero sheet file = []
 texts (suc n) sheet file = pieceOf sheet file .text ++ texts n (pieceOf sheet file .after) file
 
+-- what is written of n pages, one after another: of each as many bytes as its piece has, and the page is lent again
+unfoldable pub wrote : ℕ → Sheet → List ℕ → List ℕ → List ℕ
+wrote zero sheet file page = []
+wrote (suc n) sheet file page =
+    let w : Written = written (pieceOf sheet file) page in
+    take (w .piece .length) (w .page) ++ wrote n (w .piece .sheet) file (w .page)
+
+-- the sheet after n pieces
 unfoldable pub afterPieces : ℕ → Sheet → List ℕ → Sheet
 afterPieces zero sheet file = sheet
 afterPieces (suc n) sheet file = afterPieces n (pieceOf sheet file .after) file

@@ -4,15 +4,12 @@ mod lines;
 
 ghost use mathlib.Core.Path.{_≡_};
 ghost use Prim.Native.Nat.{_<_, _≤_};
-ghost use Rattle.sheet_text.specs.declared.Stage.the-variants.{Going};
-ghost use Rattle.rule.specs.Level.{depth};
-ghost use Rattle.card.specs.Session.{cardOf};
 ghost use Rattle.card.specs.Held.{HasCard};
-ghost use Rattle.session.specs.Good.{Good};
 ghost use Rattle.session.specs.Moves.{restOf, vectorOf};
 ghost use Rattle.sheet_text.specs.Lines.{cardText};
 ghost use Rattle.sheet_text.specs.Pieces.{fresh, ended, opened, refusal, cardPiece, restPiece, vectorPiece, entryPiece, pieceOf, written, Standing, isOver};
 ghost use Rattle.sheet_text.specs.Walk.{entryAt};
+ghost use Rattle.sheet_text.specs.declared.Stage.the-variants.{Going};
 use card::Session;
 use files::card_end;
 use files::entry_at;

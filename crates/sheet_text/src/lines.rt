@@ -4,7 +4,7 @@ ghost use mathlib.Core.Bool.{true};
 ghost use Prim.Native.Nat.{ℕ, _+_, _*_, _<_, _≤_};
 ghost use lib.ListN.{length, getD};
 ghost use Rattle.lists.specs.Entries.{each, from};
-ghost use Rattle.word.specs.Word.{bit, val};
+ghost use Rattle.word.specs.Word.{val};
 ghost use Rattle.rule.specs.Level.{depth as depthOf};
 ghost use Rattle.rule.specs.Steps.{stepList};
 ghost use Rattle.card.specs.Session.{cardOf};

@@ -2,14 +2,14 @@
 use mathlib.Core.Path.{_≡_, refl, sym, ap, _∙_, subst}
 use mathlib.Core.Bool.{cond}
 use mathlib.Core.List.{List, [], _∷_, _++_}
-use Prim.Native.Nat.{ℕ, zero, suc, _+_, _*_, _/_, _%_, _^_, _≤_, _<_}
+use Prim.Native.Nat.{ℕ, zero, suc, _+_, _/_, _%_, _^_, _≤_, _<_}
 use native.Mathlib.Omega.{arith}
 use native.Mathlib.Decide.{decLt}
 use native.Mathlib.Nat.{pow-suc}
 use native.Mathlib.Numerals.{add-one}
 use lib.Dec.{ltb}
 use lib.ListN.{length, getD, take, set, length-append}
-use lib.Seq.{sets, sets-eq, take-suc, take-at, length-take-le}
+use lib.Seq.{sets, sets-eq, take-suc, take-at}
 use borrow.Author.Tests.{lt-ltb, le-ltb}
 use Rattle.text.specs.Text.{digit, digitsIn, decimal, Put}
 
@@ -50,8 +50,10 @@ fuel zero j n p q = absurd (omega arith)
 fuel (suc k) zero n p q = absurd (omega arith)
 fuel (suc k) (suc j) n p q = go (decLt n 10) (λ l. fuel k j (n / 10) (omega arith) (omega arith))
   where
-    go : Dec (n < 10) → (10 ≤ n → digitsIn k (n / 10) ≡ digitsIn j (n / 10))
-        → cond (ltb n 10) (digit n ∷ []) (digitsIn k (n / 10) ++ (digit (n % 10) ∷ [])) ≡ cond (ltb n 10) (digit n ∷ []) (digitsIn j (n / 10) ++ (digit (n % 10) ∷ []))
+    by-digits : List ℕ → List ℕ
+    by-digits high = cond (ltb n 10) (digit n ∷ []) (high ++ (digit (n % 10) ∷ []))
+
+    go : Dec (n < 10) → (10 ≤ n → digitsIn k (n / 10) ≡ digitsIn j (n / 10)) → by-digits (digitsIn k (n / 10)) ≡ by-digits (digitsIn j (n / 10))
     go (yes l) f = rw (lt-ltb n 10 l)
     go (no l) f = rw (le-ltb n 10 (omega arith)) (ap (λ xs. xs ++ (digit (n % 10) ∷ [])) (f (omega arith)))
 

@@ -1,6 +1,6 @@
 // Text, put byte by byte into a lent page: each function puts a text at a place, and hands back the place after it.
 ghost use mathlib.Core.Path.{_≡_};
-ghost use mathlib.Core.List.{[], _∷_, _++_};
+ghost use mathlib.Core.List.{[], _∷_};
 ghost use Prim.Native.Nat.{_+_, _<_, _≤_};
 ghost use lib.ListN.{length};
 ghost use Rattle.text.specs.Text.{digit as digitByte, decimal, numbered, named, Put};

@@ -1,6 +1,7 @@
 -- `sheet::write_sheet` meets its contract. The sheet stands between two pieces, and each piece leaves fewer bytes. Assumes nothing.
 use mathlib.Core.Path.{_≡_, sym, ap, _∙_}
-use Prim.Native.Nat.{_<_}
+use mathlib.Core.List.{List}
+use Prim.Native.Nat.{ℕ, _<_}
 use native.Mathlib.Omega.{arith}
 use lib.ListN.{length}
 use borrow.Author.Tests.{not-true}
@@ -17,24 +18,20 @@ Inv-loop file out₀ sheet₀ out sheet = Standing sheet × (length out ≡ 2048
 abbrev μ-loop : tie.MeasureT-loop
 μ-loop file out₀ sheet₀ out sheet = left sheet file
 
--- the page is as long as it was, and fewer bytes are left
+-- the file, the page is as long as it was, and fewer bytes are left
+
+abbrev read : tie.After-next Inv-loop μ-loop → List ℕ
+read c = c .before .before .before .before .before .before .before .args .file .now
 
 stays : (c : tie.After-next Inv-loop μ-loop) → length (c .next .last .1 .1 .0) ≡ 20480
-stays c =
-    let l = c .before .before .before .before .loop in
-    page-stays (pieceOf (l .sheet) (c .before .before .before .before .before .before .before .args .file .now)) (l .out) _ _ (c .next .ensures .0)
-    ∙ l .inv .1
+stays c = let l = c .before .before .before .before .loop in page-stays (pieceOf (l .sheet) (read c)) (l .out) _ _ (c .next .ensures .0) ∙ l .inv .1
 
-falls : (c : tie.After-next Inv-loop μ-loop)
-    → left (c .next .result .sheet) (c .before .before .before .before .before .before .before .args .file .now) < left (c .before .before .before .before .loop .sheet) (c .before .before .before .before .before .before .before .args .file .now)
+falls : (c : tie.After-next Inv-loop μ-loop) → left (c .next .result .sheet) (read c) < left (c .before .before .before .before .loop .sheet) (read c)
 falls c =
     let l = c .before .before .before .before .loop in
-    let file = c .before .before .before .before .before .before .before .args .file .now in
-    omega (
-      arith,
-      ap (λ x. left x file) (sheet-after (pieceOf (l .sheet) file) (l .out) _ _ (c .next .ensures .0)),
-      going-falls file (l .sheet) (sym (c .before .before .before .is-over .ensures) ∙ not-true _ (c .before .before .if1 .taken)),
-    )
+    let after = ap (λ x. left x (read c)) (sheet-after (pieceOf (l .sheet) (read c)) (l .out) _ _ (c .next .ensures .0)) in
+    omega
+    (arith, after, going-falls (read c) (l .sheet) (sym (c .before .before .before .is-over .ensures) ∙ not-true _ (c .before .before .if1 .taken)))
 
 begin-requires : tie.Need-begin-requires Inv-loop μ-loop
 begin-requires c κs = search needs

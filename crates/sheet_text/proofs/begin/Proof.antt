@@ -1,5 +1,5 @@
 -- `sheet_text::begin` meets its contract. Assumes nothing.
-use mathlib.Core.Path.{_≡_, sym, ap, subst}
+use mathlib.Core.Path.{_≡_, sym, subst}
 use Rattle.sheet_text.specs.declared.Sheet.{Sheet}
 use Rattle.sheet_text.specs.declared.Stage.the-variants.{Fresh}
 use Rattle.sheet_text.specs.Pieces.{fresh, Standing}

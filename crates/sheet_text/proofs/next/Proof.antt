@@ -1,5 +1,5 @@
 -- `sheet_text::next` meets its contract: by how the sheet stands. Assumes nothing.
-use mathlib.Core.Path.{_≡_, refl}
+use mathlib.Core.Path.{refl}
 use native.Mathlib.Omega.{arith}
 use Rattle.text.proofs.Texts.{put-none}
 use Rattle.sheet_text.proofs.Steps.{hand-back, hand-on, piece-at}

@@ -1,8 +1,10 @@
 -- `sheet_text::next_record` meets its contract: by what stands at the place. Assumes nothing.
-use mathlib.Core.Path.{_≡_, refl, sym, ap, subst, _∙_}
-use Prim.Native.Nat.{_≤_}
+use mathlib.Core.Path.{_≡_, sym, ap, subst, _∙_}
+use mathlib.Core.List.{List}
+use Prim.Native.Nat.{ℕ}
 use native.Mathlib.Omega.{arith}
 use lib.ListN.{length}
+use Rattle.sheet_text.specs.declared.Entry.{Entry}
 use Rattle.sheet_text.specs.declared.Entry.the-variants.{Rest, Vector}
 use Rattle.sheet_text.specs.Pieces.{entryPiece}
 use Rattle.text.proofs.Texts.{put-none}
@@ -12,19 +14,24 @@ use borrow.Author.Needs.{needs}
 use Rattle.sheet_text.proofs.next_record.Statement.{statement}
 use Rattle.sheet_text.proofs.next_record.Tie as tie
 
--- a rest, or a vector, is whole
+-- the file and the place, and that a rest, or a vector, is whole
+
+abbrev file : tie.After-entry-at → List ℕ
+file e = e .before .before .args .file .now
+
+abbrev place : tie.After-entry-at → ℕ
+place e = e .before .before .args .sheet .at
+
+placed : (e : tie.After-entry-at) (x : Entry) → e .entry-at .result ≡ x → Placed (length (file e)) (place e) x
+placed e x g = subst (Placed (length (file e)) (place e)) (sym (e .entry-at .ensures) ∙ g) (entry-placed (file e) (place e))
 
 rest-placed : (c : tie.After-known-told2)
-    → Placed (length (c .before .before .before .before .before .args .file .now)) (c .before .before .before .before .before .args .sheet .at) (Rest (c .before .to .given .0 .0))
-rest-placed c =
-    subst (Placed _ _) (sym (c .before .before .before .entry-at .ensures) ∙ c .before .to .given .1)
-    (entry-placed (c .before .before .before .before .before .args .file .now) (c .before .before .before .before .before .args .sheet .at))
+    → Placed (length (file (c .before .before .before))) (place (c .before .before .before)) (Rest (c .before .to .given .0 .0))
+rest-placed c = placed (c .before .before .before) _ (c .before .to .given .1)
 
 vector-placed : (c : tie.After-known-told3)
-    → Placed (length (c .before .before .before .before .before .args .file .now)) (c .before .before .before .before .before .args .sheet .at) (Vector (c .before .to2 .given .0 .0))
-vector-placed c =
-    subst (Placed _ _) (sym (c .before .before .before .entry-at .ensures) ∙ c .before .to2 .given .1)
-    (entry-placed (c .before .before .before .before .before .args .file .now) (c .before .before .before .before .before .args .sheet .at))
+    → Placed (length (file (c .before .before .before))) (place (c .before .before .before)) (Vector (c .before .to2 .given .0 .0))
+vector-placed c = placed (c .before .before .before) _ (c .before .to2 .given .1)
 
 entry-at-requires : tie.Need-entry-at-requires
 entry-at-requires c κs = search needs

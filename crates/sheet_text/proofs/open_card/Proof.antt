@@ -2,13 +2,25 @@
 use mathlib.Core.Path.{_≡_, sym, _∙_}
 use native.Mathlib.Omega.{arith}
 use lib.Seq.{length-take-le}
-use Rattle.card.specs.Held.{HasCard}
-use Rattle.records.specs.Written.{Bytes}
-use Rattle.sheet_text.specs.Pieces.{loadedPiece}
+use Rattle.sheet_text.specs.Pieces.{loadedPiece, cardPiece}
 use Rattle.sheet_text.proofs.Steps.{hand-on, refused-so, done-so, card-long, card-loads, bytes-front, load-holds}
 use borrow.Author.Needs.{needs}
 use Rattle.sheet_text.proofs.open_card.Statement.{statement}
 use Rattle.sheet_text.proofs.open_card.Tie as tie
+
+-- the function's entry, from where the card is loaded
+abbrev entry : tie.After-load → tie.Start
+entry l = l .before .before .before .before .before .before
+
+-- there the piece is what load's answer makes it
+loads : (l : tie.After-load)
+    → loadedPiece (entry l .args .sheet) (l .before .before .before .card-end .result) (l .load .result)
+    ≡ cardPiece (entry l .args .sheet) (entry l .args .file .now)
+loads l =
+    let a = entry l .args in
+    card-loads (a .sheet) (a .file .now) (l .before .before .empty .result) (l .before .before .before .card-end .result) (l .load .result)
+    (l .before .before .before .before .if1 .left) (l .before .before .empty .ensures)
+    (l .before .before .before .card-end .ensures .0) (l .load .ensures)
 
 refused-requires : tie.Need-refused-requires
 refused-requires c κs = search needs
@@ -44,38 +56,23 @@ enum-told c = search needs
 
 taken-requires : tie.Need-taken-requires
 taken-requires c κs =
-    load-holds (c .before .before .before .before .before .before .empty .result) _
-    (bytes-front (c .before .before .before .before .before .before .before .card-end .result)
-    (c .before .before .before .before .before .before .before .before .before .before .args .file .now)
-    (λ i. omega (arith, c .before .before .before .before .before .before .before .before .before .shared-slice-known .given i)))
-    (c .before .before .before .before .load .result) (c .before .before .before .before .load .ensures) _ (c .before .enum-told .given .1)
+    let l = c .before .before .before .before in
+    let front = bytes-front (l .before .before .before .card-end .result) (entry l .args .file .now)
+    (λ i. omega (arith, l .before .before .before .before .before .shared-slice-known .given i)) in
+    load-holds (l .before .before .empty .result) _ front (l .load .result) (l .load .ensures) _ (c .before .enum-told .given .1)
 
 returns-2 : tie.Need-returns-2
 returns-2 c =
-    let a = c .before .before .before .before .before .before .before .before .before .before .before .before .args in
-    hand-on (a .out .now)
-    (refused-so (c .before .before .before .before .before .before .load .result .answer) (a .sheet) _ _ (c .before .before .before .answer .given .1)
-    ∙ card-loads (a .sheet) (a .file .now) (c .before .before .before .before .before .before .before .before .empty .result)
-    (c .before .before .before .before .before .before .before .before .before .card-end .result)
-    (c .before .before .before .before .before .before .load .result)
-    (c .before .before .before .before .before .before .before .before .before .before .if1 .left)
-    (c .before .before .before .before .before .before .before .before .empty .ensures)
-    (c .before .before .before .before .before .before .before .before .before .card-end .ensures .0)
-    (c .before .before .before .before .before .before .load .ensures))
+    let l = c .before .before .before .before .before .before in
+    let a = entry l .args in
+    hand-on (a .out .now) (refused-so (l .load .result .answer) (a .sheet) _ _ (c .before .before .before .answer .given .1) ∙ loads l)
     (c .refused2 .ensures)
 
 returns-3 : tie.Need-returns-3
 returns-3 c =
-    let a = c .before .before .before .before .before .before .before .before .before .before .before .args in
-    hand-on (a .out .now)
-    (done-so (c .before .before .before .before .before .load .result .answer) (a .sheet) _ _ (c .before .before .enum-told .given .1)
-    ∙ card-loads (a .sheet) (a .file .now) (c .before .before .before .before .before .before .before .empty .result)
-    (c .before .before .before .before .before .before .before .before .card-end .result) (c .before .before .before .before .before .load .result)
-    (c .before .before .before .before .before .before .before .before .before .if1 .left)
-    (c .before .before .before .before .before .before .before .empty .ensures)
-    (c .before .before .before .before .before .before .before .before .card-end .ensures .0)
-    (c .before .before .before .before .before .load .ensures))
-    (c .taken .ensures)
+    let l = c .before .before .before .before .before in
+    let a = entry l .args in
+    hand-on (a .out .now) (done-so (l .load .result .answer) (a .sheet) _ _ (c .before .before .enum-told .given .1) ∙ loads l) (c .taken .ensures)
 
 pub open-card-spec : {M : Type 1} → statement M
 open-card-spec =

@@ -1,5 +1,5 @@
 -- `sheet_text::rest` meets its contract: by what the session's rest answers. Assumes nothing.
-use mathlib.Core.Path.{_≡_, refl, ap, _∙_}
+use mathlib.Core.Path.{refl, ap, _∙_}
 use mathlib.Core.List.{[]}
 use Rattle.text.proofs.Texts.{put-none}
 use Rattle.sheet_text.specs.Pieces.{moved, restPiece}

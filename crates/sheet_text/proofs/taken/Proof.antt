@@ -1,5 +1,4 @@
 -- `sheet_text::taken` meets its contract. Assumes nothing.
-use mathlib.Core.Path.{ap}
 use Rattle.sheet_text.specs.declared.Stage.the-variants.{Going}
 use Rattle.sheet_text.specs.Lines.{cardText}
 use Rattle.sheet_text.specs.Pieces.{opened}

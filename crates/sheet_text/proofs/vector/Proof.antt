@@ -1,5 +1,5 @@
 -- `sheet_text::vector` meets its contract: by what the session's vector answers. Assumes nothing.
-use mathlib.Core.Path.{_≡_, refl, sym, ap, subst, _∙_}
+use mathlib.Core.Path.{refl, sym, ap, subst, _∙_}
 use Prim.Native.Nat.{_+_}
 use native.Mathlib.Omega.{arith}
 use Rattle.rule.specs.Level.{depth}

@@ -1,5 +1,5 @@
 -- `files::entry_at` meets its contract: at each return the tests that led there say what stands at the place. Assumes nothing.
-use mathlib.Core.Path.{_≡_, refl, _∙_}
+use mathlib.Core.Path.{refl, _∙_}
 use native.Mathlib.Omega.{arith}
 use borrow.Author.Needs.{needs}
 use Rattle.sheet_text.proofs.Walks.{in-nothing, in-head, in-kind, in-rest-cut, in-rest, in-vector-cut, in-vector, entry-as}

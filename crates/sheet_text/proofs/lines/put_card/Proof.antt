@@ -1,11 +1,9 @@
 -- `lines::put_card` meets its contract: its two halves, one after the other. Assumes nothing.
-use mathlib.Core.Path.{_≡_, ap, ap₂, _∙_}
-use mathlib.Core.List.{_++_}
+use mathlib.Core.Path.{ap₂}
 use native.Mathlib.Omega.{arith}
-use Rattle.text.specs.Text.{named}
 use Rattle.text.proofs.Texts.{put-same, put-then}
-use Rattle.card.proofs.Kept.{card-depth, card-steps}
-use Rattle.sheet_text.specs.Lines.{blank, lf, depthWord, stepsWord, firstLine, cardText}
+use Rattle.card.proofs.Kept.{card-steps}
+use Rattle.sheet_text.specs.Lines.{blank, lf, firstLine, cardText}
 use Rattle.sheet_text.proofs.Lengths.{word-short}
 use borrow.Author.Needs.{needs}
 use Rattle.sheet_text.proofs.lines.put_card.Statement.{statement}

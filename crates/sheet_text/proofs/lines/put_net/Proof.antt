@@ -1,7 +1,7 @@
 -- `lines::put_net` meets its contract: its parts one after another, none longer than its share of the 77 bytes. Assumes nothing.
 use mathlib.Core.Path.{ap₂}
-use mathlib.Core.List.{[], _∷_, _++_}
-use Prim.Native.Nat.{_+_, _≤_}
+use mathlib.Core.List.{List, [], _∷_, _++_}
+use Prim.Native.Nat.{ℕ, _+_, _≤_}
 use native.Mathlib.Omega.{arith}
 use Rattle.text.specs.Text.{numbered}
 use Rattle.text.proofs.Texts.{put-same, put-then}
@@ -61,13 +61,19 @@ put-number-requires-3 c κs =
 returns : tie.Need-returns
 unfolding netLine
 returns c =
-    let s = c .before .before .before .before .before .before .before .before .before .before .before .before .args in (
-      put-same
-          (ap₂ (λ x y. numbered (s .net) blank ++ (numbered x blank ++ ((values (s .word) (s .depth) ++ (blank ∷ [])) ++ numbered y lf)))
-          (c .before .before .before .before .before .before .before .before .wide .ensures .0) (c .before .wide2 .ensures .0))
-          (put-then (c .before .before .before .before .before .before .before .before .before .before .put-number .ensures) (put-then (c .before .before .before .before .before .before .before .put-number2 .ensures) (put-then (put-then (c .before .before .before .before .before .put-values .ensures) (c .before .before .before .put .ensures)) (c .put-number3 .ensures)))),
+    let a = c .before .before .before .before .before .before .before .before .before .before .before .before .args in
+    let last = c .before in
+    let before-is = c .before .before .before .before .before .before .before .before .wide .ensures .0 in
+    let flag-is = last .wide2 .ensures .0 in
+    let line : ℕ → ℕ → List ℕ = λ x y. numbered (a .net) blank ++
+    (numbered x blank ++ ((values (a .word) (a .depth) ++ (blank ∷ [])) ++ numbered y lf)) in
+    let middle = put-then (c .before .before .before .before .before .put-values .ensures) (c .before .before .before .put .ensures) in
+    let put = put-then (c .before .before .before .before .before .before .before .before .before .before .put-number .ensures)
+    (put-then (c .before .before .before .before .before .before .before .put-number2 .ensures) (put-then middle (c .put-number3 .ensures))) in
+    let short = byte-short (last .wide2 .result) lf (last .wide2 .ensures .1) in (
+      put-same (ap₂ line before-is flag-is) put,
       omega
-          (arith, third (c .before .before .before .before .before), c .before .before .before .put .ensures .end-is, c .put-number3 .ensures .end-is, byte-short (c .before .wide2 .result) lf (c .before .wide2 .ensures .1)),
+          (arith, third (c .before .before .before .before .before), c .before .before .before .put .ensures .end-is, c .put-number3 .ensures .end-is),
     )
 
 pub put-net-spec : {M : Type 1} → statement M

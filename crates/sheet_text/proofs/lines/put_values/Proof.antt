@@ -51,12 +51,10 @@ loop-less : tie.Need-loop-less Inv-loop μ-loop
 loop-less c = search needs
 
 loop-again : tie.Need-loop-again Inv-loop μ-loop
-loop-again c = (
-  omega arith,
-  values-more (shown (c .before .before .before .before .before .before .args .word))
-      (c .before .before .before .before .before .loop .t) (c .before .value-byte .ensures ∙ ap (λ b. digit (val b)) (c .before .before .has .ensures))
-      (c .before .before .before .before .before .loop .inv .1) (c .put .ensures),
-)
+loop-again c =
+    let l = c .before .before .before .before .before .loop in
+    let byte = c .before .value-byte .ensures ∙ ap (λ b. digit (val b)) (c .before .before .has .ensures) in
+    (omega arith, values-more (shown (c .before .before .before .before .before .before .args .word)) (l .t) byte (l .inv .1) (c .put .ensures))
 
 returns : tie.Need-returns Inv-loop μ-loop
 unfolding values

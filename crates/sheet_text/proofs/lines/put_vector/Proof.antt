@@ -1,18 +1,12 @@
 -- `lines::put_vector` meets its contract: the slices that history fills hold what the lines say. Assumes nothing.
-use mathlib.Core.Path.{_≡_, sym, ap, ap₂, subst, _∙_}
-use mathlib.Core.List.{List, _++_}
-use Prim.Native.Nat.{ℕ, _≤_}
+use mathlib.Core.Path.{ap}
+use mathlib.Core.List.{_++_}
 use native.Mathlib.Omega.{arith}
-use lib.ListN.{getD}
-use Rattle.lists.specs.Entries.{each, from}
-use Rattle.word.specs.Word.{val}
 use Rattle.text.specs.Text.{named}
 use Rattle.text.proofs.Texts.{put-same, put-then}
-use Rattle.card.specs.Held.{HasCard}
 use Rattle.card.proofs.Kept.{card-depth}
-use Rattle.history.specs.Told.{wordAt, beforeAt, flagAt}
 use Rattle.history.proofs.Ran.{holds, few}
-use Rattle.sheet_text.specs.Lines.{lf, vectorWord, netLine, vectorText}
+use Rattle.sheet_text.specs.Lines.{lf, vectorWord, vectorText}
 use Rattle.sheet_text.proofs.Lengths.{word-short}
 use Rattle.sheet_text.proofs.Cards.{lines-are}
 use borrow.Author.Needs.{needs}
