@@ -4,7 +4,6 @@ use mathlib.Core.Bool.{Bool, true, false, _&&_, true≢false}
 use mathlib.Core.List.{List, [], _∷_, map}
 use Prim.Native.Nat.{ℕ}
 use lib.Dec.{eqb}
-use lib.ListN.{length, getD, replicate}
 use borrow.Author.Tests.{eqb-true}
 use Rattle.lists.specs.Entries.{_∈_, every}
 use Rattle.lists.specs.Listed.{listed, listedFrom}
@@ -26,7 +25,6 @@ use Rattle.wiring.specs.Wired.{pinsFit, mostBack, wiredOf, setWords}
 use Rattle.records.specs.Bytes.{u16At, kindFits, typeFits, bodyFits, netRecord, recordAt, readAt}
 use Rattle.records.specs.Scan.{netMeant, scan}
 use Rattle.records.specs.Written.{netBytes, cardBytes}
-use Rattle.card.specs.declared.Session.{Session}
 use Rattle.card.specs.Session.{none, inputsOf, sessionOf, cardOf}
 use Rattle.card.specs.Load.{judged, loadOf}
 use Rattle.card.specs.Asked.{netAsked}

@@ -11,18 +11,17 @@ use Rattle.lists.proofs.Joined.{out-from, each-ext}
 use Rattle.word.specs.Word.{val}
 use Rattle.rule.specs.Net.{Net}
 use Rattle.rule.specs.Level.{depth}
-use Rattle.rule.specs.Steps.{gateOrder, stepList}
+use Rattle.rule.specs.Steps.{stepList}
 use Rattle.rule.specs.declared.Answer.{Answer}
 use Rattle.wiring.specs.Layout.{countsOf, placesOf}
 use Rattle.wiring.specs.Wires.{backs, highest, sizesOf}
 use Rattle.wiring.proofs.Layouts.{levels-laid, depth-laid}
 use Rattle.wiring.proofs.CardSets.{sizes-laid}
-use Rattle.wiring.proofs.Orders.{padded-back}
 use Rattle.card.specs.declared.Session.{Session}
 use Rattle.card.specs.Session.{cardOf}
 use Rattle.card.specs.Held.{HasCard}
-use Rattle.card.proofs.Kept.{nets-are, gates-are, counts-are, places-are, order-is, sets-are, card-fits, card-depth}
-use Rattle.steps.proofs.Cards.{gates-few}
+use Rattle.card.proofs.Kept.{nets-are, counts-are, places-are, sets-are, card-fits, card-depth}
+use Rattle.session.proofs.Held.{order-back}
 use Rattle.history.specs.Told.{Told, wordAt, beforeAt, flagAt, historyOf}
 use Rattle.history.proofs.Fills.{fill-at}
 use Rattle.history.proofs.Ran.{few}
@@ -40,13 +39,8 @@ module _ (s : Session) (h : HasCard s) where
       ∙ ap (λ xs. highest xs (length c)) (levels-laid c (card-fits s h .fits))
       ∙ depth-laid c (card-fits s h .fits)
 
-  order-back : listed (λ i. getD (s .order) i 0) (s .gates) ≡ gateOrder c
-  order-back =
-      ap₂ (λ xs k. listed (λ i. getD xs i 0) k) (order-is s h) (gates-are s h)
-      ∙ padded-back (gateOrder c) (omega (arith, gates-are s h, gates-few s h))
-
   pub steps-is : sizesOf (s .sets) (listed (λ i. getD (s .order) i 0) (s .gates)) ≡ length (stepList c)
-  steps-is = ap₂ sizesOf (sets-are s h) order-back ∙ sizes-laid c (h .accepted .free) (card-fits s h .fits) (card-depth s h)
+  steps-is = ap₂ sizesOf (sets-are s h) (order-back s h) ∙ sizes-laid c (h .accepted .free) (card-fits s h .fits) (card-depth s h)
 
   -- three slices of 256 that history filled
   module _ (rested : s .rested ≡ true) (a : Answer) (ws bs fs : List ℕ)
