@@ -1,0 +1,194 @@
+-- The three demands. Each is stated over the operations' own definitions, and asks nothing but the session predicate; what document 01 leaves to the
+-- caller (a card that is rested, a vector that is not refused) stands as a hypothesis where the demand says so. Assumes nothing.
+use mathlib.Core.Path.{_≡_, refl, sym, ap, subst, _∙_}
+use mathlib.Core.Bool.{Bool, true, false}
+use mathlib.Core.List.{List, [], _∷_, _++_, map}
+use Prim.Native.Nat.{ℕ, _<_, _≤_}
+use native.Mathlib.Omega.{arith}
+use lib.ListN.{getD}
+use Rattle.lists.specs.Entries.{_∈_, Number}
+use Rattle.word.specs.Word.{bit}
+use Rattle.rule.specs.Net.{Net}
+use Rattle.rule.specs.Rule.{value, Rest}
+use Rattle.rule.specs.Steps.{Joined, GoodOrder, stepList}
+use Rattle.rule.specs.Numbers.{numberOf}
+use Rattle.rule.specs.declared.Refusal.{Refusal}
+use Rattle.rule.specs.declared.Refusal.the-variants.{OrderLength, OrderEntry, OrderEarly}
+use Rattle.rule.specs.declared.Answer.the-variants.{Done, Refused}
+use Rattle.wiring.specs.declared.Verdict.{Verdict}
+use Rattle.records.specs.Written.{Bytes}
+use Rattle.card.specs.declared.Session.{Session}
+use Rattle.card.specs.Session.{none, cardOf}
+use Rattle.card.specs.Load.{refusal, loadOf}
+use Rattle.card.specs.Allowed.{Allowed, Gets}
+use Rattle.card.specs.Held.{HasCard}
+use Rattle.card.proofs.Kept.{card-fits}
+use Rattle.card.proofs.Verdicts.{taken, load-takes, load-taken, load-refuses, load-refused}
+use Rattle.session.specs.Good.{Good}
+use Rattle.session.specs.Inputs.{given, givenTo}
+use Rattle.session.specs.Moves.{restOf, vectorOf}
+use Rattle.session.specs.Allowed.{Vector, gets-12, gets-10, gets-11}
+use Rattle.session.specs.Sequence.{after, stateAfter}
+use Rattle.session.proofs.Kept.{none-good, load-good, rest-good, vector-good}
+use Rattle.session.proofs.Refusals.{vector-fits}
+use Rattle.session.proofs.Sequences.{sequence-rule}
+use Rattle.steps.specs.Vector.{ranAlong, stepsVectorOf}
+use Rattle.steps.proofs.Engines.{AnyOrder, run-any-order, steps-number, engines-equal}
+use Rattle.bench.specs.Orders.{stepsOf, orderJudged}
+use Rattle.bench.specs.Bench.{benchOf}
+use Rattle.bench.specs.Allowed.{BenchGets, gets-vector, gets-15, gets-16, gets-17, gets-19, gets-18}
+use Rattle.bench.proofs.Judging.{Fit, good-fit, Judgement, judgement, gets-15 as judged-15, gets-16 as judged-16, gets-17 as judged-17, taken as judged-taken}
+use Rattle.bench.proofs.Benches.{bench-refuses, bench-refused, bench-good}
+use Rattle.demands.specs.Operations.{Engine, fields, steps, vectorBy, Operation, load, rest, vector, history, list, records, ask, trace, bench, lentTo, outcome, Turn, afterBy}
+use Rattle.demands.proofs.Refusing.{Same, keeps}
+
+-- Demand 1. "Give the program a card or a vector of any kind, damaged ones too: it ends with a result or a numbered refusal. Nothing has to be checked
+-- beforehand. A refusal leaves the session and all lent room as they stood."
+pub demand-1 : (s : Session) (o : Operation) → ¬ (outcome s o .number ≡ 0) → Same s (lentTo o) (outcome s o)
+demand-1 s o n = keeps s o n
+
+-- what is loaded is bytes
+abbrev pub Given : Operation → Type 0
+Given (load b) = Bytes b
+Given (rest v) = Unit {0}
+Given (vector e v) = Unit {0}
+Given (history ws bs fs) = Unit {0}
+Given (list ns ts) = Unit {0}
+Given (records room) = Unit {0}
+Given (ask n) = Unit {0}
+Given (trace n t room) = Unit {0}
+Given (bench v order k room) = Unit {0}
+
+-- the session predicate is met by the empty session and kept by every operation
+engine-same : (e : Engine) (s : Session) → Good s → (v : List ℕ) → vectorBy e s v .session ≡ vectorOf s v .session
+engine-same fields s g v = refl
+engine-same steps s g v = engines-equal s g v
+
+engine-good : (e : Engine) (s : Session) → Good s → (v : List ℕ) → Good (vectorBy e s v .session)
+engine-good e s g v = subst Good (sym (engine-same e s g v)) (vector-good s g v)
+
+pub demand-1-starts : Good none
+demand-1-starts = none-good
+
+pub demand-1-keeps : (s : Session) (o : Operation) → Good s → Given o → Good (outcome s o .session)
+demand-1-keeps s (load b) g h = load-good s b g h
+demand-1-keeps s (rest v) g h = rest-good s g v
+demand-1-keeps s (vector e v) g h = engine-good e s g v
+demand-1-keeps s (history ws bs fs) g h = g
+demand-1-keeps s (list ns ts) g h = g
+demand-1-keeps s (records room) g h = g
+demand-1-keeps s (ask n) g h = g
+demand-1-keeps s (trace n t room) g h = g
+demand-1-keeps s (bench v order k room) g h = bench-good s g v order k room
+
+-- Demand 2. "A card is accepted exactly when document 01 allows it"; each number exactly when it gives it
+pub record Accepts (old : Session) (b : List ℕ) : Type 0 where
+  pub taken-if : (a : Allowed b) → loadOf old b ≡ taken (a .card)
+  pub taken-only : (k : ℕ) → loadOf old b .answer ≡ Done k → Allowed b
+  pub refused-if : (r : Refusal) → Gets b r → loadOf old b ≡ refusal old r
+  pub refused-only : (r : Refusal) → loadOf old b .answer ≡ Refused r → Gets b r
+
+pub demand-2-accepts : (old : Session) (b : List ℕ) → Bytes b → Accepts old b
+demand-2-accepts old b h = record {
+  taken-if = load-takes old b h;
+  taken-only = λ k e. load-taken old b h k e .0;
+  refused-if = load-refuses old b h;
+  refused-only = load-refused old b h;
+}
+
+-- "both engines, the step list and the bit-fields": they leave the same session, whatever the vector
+pub demand-2-engines : (s : Session) → Good s → (v : List ℕ) → vectorBy steps s v .session ≡ vectorBy fields s v .session
+demand-2-engines s g v = engines-equal s g v
+
+-- vectors by engines in any mixture leave what the same vectors by fields leave
+abbrev pub vectors : List Turn → List (List ℕ)
+vectors ts = map (λ t. t .given) ts
+
+mixed : (ts : List Turn) (s : Session) → Good s → afterBy s ts ≡ after s (vectors ts)
+unfolding afterBy after
+mixed [] s g = refl
+mixed (t ∷ ts) s g =
+    mixed ts (vectorBy (t .engine) s (t .given) .session) (engine-good (t .engine) s g (t .given)) ∙ ap (λ x. after x (vectors ts)) (engine-same (t .engine) s g (t .given))
+
+vectors-more : (ts : List Turn) (t : Turn) → vectors (ts ++ (t ∷ [])) ≡ vectors ts ++ (t .given ∷ [])
+vectors-more [] t = refl
+vectors-more (x ∷ ts) t = ap (λ l. x .given ∷ l) (vectors-more ts t)
+
+-- "For each accepted card and each vector in turn, both engines give every net the value at every time that the unit-delay rule gives it, from a settled
+-- rest vector": after a rest and any vectors, each by either engine, the words are the rule's for the last vector, from the state that the earlier ones left
+-- of the rest; and so are the before values
+pub demand-2-values : (s : Session) → Good s → s .loaded ≡ true → (u : List ℕ) → Vector (s .inputs) u → (start : ℕ → Bool) → Rest (cardOf s) (givenTo (cardOf s) u) start
+    → (ts : List Turn) → ((v : List ℕ) → v ∈ vectors ts → Vector (s .inputs) v) → (t : Turn) → Vector (s .inputs) (t .given) → (n : ℕ) → n < s .nets
+    → let left = afterBy (restOf s u .session) (ts ++ (t ∷ [])) in
+    let before = stateAfter (cardOf s) start (vectors ts) in
+    ((time : ℕ) → time < 64 → bit (getD (left .words) n 0) time ≡ value (cardOf s) before (givenTo (cardOf s) (t .given)) n time) × (getD (left .before) n false ≡ before n)
+demand-2-values s g l u fits start r ts all t last n b =
+    let same = mixed (ts ++ (t ∷ [])) (restOf s u .session) (rest-good s g u) ∙ ap (after (restOf s u .session)) (vectors-more ts t) in
+    let rule = sequence-rule s g l u fits start r (vectors ts) all (t .given) last n b in
+    (λ time q. ap (λ x. bit (getD (x .words) n 0) time) same ∙ rule .0 time q, ap (λ x. getD (x .before) n false) same ∙ rule .1)
+
+-- Demand 3. "On any rested card, with any vector that isn't refused, in any order that has each step once and no step before one whose value it reads, each
+-- step gives its proper value when it is reached, and the whole run ends with the rule's history and state."
+pub demand-3-order : (s : Session) → Good s → s .rested ≡ true → (v order : List ℕ) → GoodOrder (cardOf s) (stepsOf (cardOf s) order) → AnyOrder s (given (s .kinds) v) (stepsOf (cardOf s) order)
+demand-3-order s g r v order good = run-any-order s g r (given (s .kinds) v) (stepsOf (cardOf s) order) good
+
+-- "The steps done number exactly the pairs of a gate and a time t that some chain of t gates joins to an input or constant."
+pub demand-3-count : (s : Session) → Good s → s .rested ≡ true → (v : List ℕ) → Vector (s .inputs) v
+    → (k : ℕ) × (stepsVectorOf s v .answer ≡ Done k) × Number (Joined (cardOf s)) k
+unfolding stepsVectorOf
+demand-3-count s g r v fits =
+    (ranAlong s (given (s .kinds) v) (stepList (cardOf s)) .count, rw (r, vector-fits (s .inputs) v fits), steps-number s g r (given (s .kinds) v))
+
+-- "An order is turned away, by 15, 16 or 17, exactly when it isn't one of these."
+pub data OrderFault : Refusal → Type 0 where
+  fault-15 : OrderFault OrderLength
+  fault-16 : OrderFault OrderEntry
+  fault-17 : OrderFault OrderEarly
+
+module _ (s : Session) (g : Good s) (rested : s .rested ≡ true) (v : List ℕ) (fits : Vector (s .inputs) v) (order : List ℕ) (k : ℕ) (room : List ℕ) where
+  abbrev c : List Net
+  c = cardOf s
+
+  card : HasCard s
+  card = g .card (g .rest rested .0)
+
+  pub record TurnedAway : Type 0 where
+    pub why : Refusal
+    pub fault : OrderFault why
+    pub refused : benchOf s v order k room .moved .answer ≡ Refused why
+
+  turned : (why : Refusal) → OrderFault why → BenchGets s v order k room why → TurnedAway
+  turned why f b = record { why = why; fault = f; refused = ap (λ x. x .moved .answer) (bench-refuses s g v order k room why b) }
+
+  turns-away : ¬ GoodOrder c (stepsOf c order) → TurnedAway
+  turns-away n = go (orderJudged c order) (judgement c (card .accepted .free) (card-fits s card .pinned) order)
+    where
+      go : (j : Verdict) → Judgement c (card .accepted .free) (card-fits s card .pinned) order j → TurnedAway
+      go j (judged-15 l) = turned OrderLength fault-15 (gets-15 rested fits l)
+      go j (judged-16 l e) = turned OrderEntry fault-16 (gets-16 rested fits l (λ x. e (x .below, x .once)))
+      go j (judged-17 l b o e) = turned OrderEarly fault-17 (gets-17 rested fits l (record { below = b; once = o }) e)
+      go j (judged-taken good) = absurd (n good)
+
+  fault-number : {why : Refusal} → OrderFault why → (15 ≤ numberOf why) × (numberOf why ≤ 17)
+  fault-number fault-15 = (omega arith, omega arith)
+  fault-number fault-16 = (omega arith, omega arith)
+  fault-number fault-17 = (omega arith, omega arith)
+
+  takes-good : GoodOrder c (stepsOf c order) → ¬ TurnedAway
+  takes-good good t = go (t .why) (fault-number (t .fault)) (bench-refused s g v order k room (t .why) (t .refused) .0)
+    where
+      fit : Fit c (card .accepted .free) (card-fits s card .pinned) order
+      fit = good-fit c (card .accepted .free) (card-fits s card .pinned) order good
+
+      go : (why : Refusal) → (15 ≤ numberOf why) × (numberOf why ≤ 17) → BenchGets s v order k room why → ⊥
+      go why n (gets-vector (gets-12 e)) = omega (arith, n .0)
+      go why n (gets-vector (gets-10 e l)) = omega (arith, n .0)
+      go why n (gets-vector (gets-11 e l b m x)) = omega (arith, n .0)
+      go why n (gets-15 e w l) = l (fit .long)
+      go why n (gets-16 e w l x) = x (record { below = fit .entries; once = fit .once })
+      go why n (gets-17 e w l x y) = y (fit .after)
+      go why n (gets-19 e w o l) = omega (arith, n .1)
+      go why n (gets-18 e w o l b) = omega (arith, n .1)
+
+  pub demand-3-refusals : (GoodOrder c (stepsOf c order) → ¬ TurnedAway) × (¬ GoodOrder c (stepsOf c order) → TurnedAway)
+  demand-3-refusals = (takes-good, turns-away)
