@@ -101,6 +101,17 @@ class Card:
     def __len__(self):
         return len(self.nets)
 
+    def steps(self):
+        """The step list: by level, then net, then time."""
+        gates = sorted((self.shape[n][0], n) for n in range(len(self)) if self.nets[n][0] == "gate")
+        return [(n, t) for _, n in gates for t in sorted(self.shape[n][1])]
+
+    def reads(self, net, t):
+        """The steps that a step reads: of each pin its largest element strictly below, where that is not 0."""
+        pins = [p for p in self.nets[net][2] if p != OPEN and self.nets[p][0] == "gate"]
+        below = [(p, max([0] + [u for u in self.shape[p][1] if u < t])) for p in pins]
+        return {(p, u) for p, u in below if u}
+
 
 def levels(nets, net, known, above):
     """(level, PC-set) of a net; a net that reaches itself is an error."""
@@ -188,6 +199,50 @@ class Bench:
             self.values.append(state)
         return 0, 0
 
+    def steps(self, vector):
+        number, count = self.vector(vector)
+        return number, 0 if number else len(self.card.steps())
+
+    def list(self, rooms):
+        steps = self.card.steps() if self.card else []
+        number = 12 if self.card is None else 18 if min(rooms) < len(steps) else 0
+        if number:
+            return "%d 0" % number + fill([], rooms[0]) + fill([], rooms[1])
+        return "0 %d" % len(steps) + fill([n for n, _ in steps], rooms[0]) + fill([t for _, t in steps], rooms[1])
+
+    def records(self, room):
+        steps = self.card.steps() if self.card else []
+        number = 12 if self.card is None else 18 if room < len(steps) else 0
+        written = [] if number else steps
+        return "%d %d |" % (number, len(written)) + "".join(" %d:%d" % e for e in list(written) + [(170, 170)] * (room - len(written)))
+
+    def order_fault(self, order):
+        steps = self.card.steps()
+        if len(order) != len(steps):
+            return 15
+        if any(e >= len(steps) for e in order) or len(set(order)) < len(order):
+            return 16
+        done = set()
+        for e in order:
+            if not self.card.reads(*steps[e]) <= done:
+                return 17
+            done.add(steps[e])
+        return 0
+
+    def bench(self, vector, order, k, room):
+        number = 12 if self.before is None else self.fault(vector) or self.order_fault(order)
+        steps = self.card.steps() if self.card else []
+        number = number or (19 if k > len(steps) else 18 if room < len(steps) else 0)
+        if number:
+            return "%d 0" % number + fill([], room)
+        held = self.before, self.values
+        self.vector(vector)
+        first = set(order[:k])
+        answer = "0 %d" % k + fill([self.values[t][n] if e in first else 2 for e, (n, t) in enumerate(steps)], room)
+        if k < len(steps):
+            self.before, self.values = held
+        return answer
+
     def changed(self, net, t):
         return self.values[t][net] != (self.values[t - 1][net] if t else self.before[net])
 
@@ -220,9 +275,75 @@ class Bench:
         return "0 %d" % (t + 1) + fill(way, room)
 
 
+def first_end(data):
+    """Where the first end record ends, heads walked one after another; all of it where there is none."""
+    at = 0
+    while at + 4 <= len(data):
+        length, kind = struct.unpack_from("<HH", data, at)
+        at += 4 + length
+        if kind == 4:
+            return min(at, len(data))
+    return len(data)
+
+
+def sheet(data):
+    """What the sheet program prints for a session file."""
+    if len(data) > 65536:
+        return "refused 18\n"
+    bench, at = Bench(), first_end(data)
+    number, _ = bench.load(data[:at])
+    if number:
+        return "refused %d\n" % number
+    depth = max(level for level, _ in bench.card.shape)
+    out, vectors = ["depth %d steps %d\n" % (depth, len(bench.card.steps()))], 0
+    while at < len(data):
+        number, length, kind = 0, 0, 0
+        if len(data) < at + 4:
+            number = 1
+        else:
+            length, kind = struct.unpack_from("<HH", data, at)
+            number = 2 if kind not in (5, 6) else 1 if len(data) < at + 4 + length else 0
+        body = data[at + 4 : at + 4 + length]
+        if not number:
+            number, _ = bench.rest(body) if kind == 5 else bench.vector(body)
+        if number:
+            out.append("refused %d\n" % number)
+            break
+        at += 4 + length
+        if kind == 6:
+            vectors += 1
+            out.append("vector %d\n" % vectors)
+            for n in range(len(bench.card)):
+                values = "".join("%d" % bench.values[t][n] for t in range(depth + 1))
+                out.append("%d %d %s %d\n" % (n, bench.before[n], values, bench.flag(n)))
+    return "".join(out)
+
+
 def fill(entries, room, hexed=False):
     """A lent room after a call: the entries written, and what was there before."""
     return " |" + "".join(" %x" % e if hexed else " %d" % e for e in list(entries) + [170] * (room - len(entries)))
+
+
+def good_order(rng, held):
+    """A random order of a card's steps, none before one that it reads."""
+    steps = held.steps()
+    number = {step: e for e, step in enumerate(steps)}
+    left = [{number[r] for r in held.reads(*step)} for step in steps]
+    readers = [[] for _ in steps]
+    for e, reads in enumerate(left):
+        for r in reads:
+            readers[r].append(e)
+    free, order = [e for e, reads in enumerate(left) if not reads], []
+    while free:
+        at = rng.randrange(len(free))
+        free[at], free[-1] = free[-1], free[at]
+        e = free.pop()
+        order.append(e)
+        for reader in readers[e]:
+            left[reader].discard(e)
+            if not left[reader]:
+                free.append(reader)
+    return order
 
 
 def random_card(rng, n):
