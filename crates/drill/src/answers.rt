@@ -1,12 +1,13 @@
 // The answers' text, in a buffer that is written out when it is full. Each function puts something at a place of the buffer, and gives back
 // how far it is filled then.
 ghost use mathlib.Core.Path.{_≡_};
-ghost use Prim.Native.Nat.{_+_};
+ghost use Prim.Native.Nat.{_+_, _≤_};
 ghost use lib.ListN.{set};
 ghost use Rattle.drill.specs.Kept.{slot};
 use libc::STDOUT_FILENO;
 use rule::Answer;
 use rule::NetAnswer;
+use step_records::StepRecord;
 
 // Writes the first n bytes of the buffer out, all of it where it has no more.
 pub fn flush(out: &[u8], n: usize) {
@@ -113,6 +114,23 @@ pub fn put_bytes(out: &mut [u8; 8192], at: usize, room: &[u8]) -> usize {
     while i < room.len() {
         end = put(out, end, b' ');
         end = put_decimal(out, end, room[i] as u64);
+        i += 1;
+    }
+    end
+}
+
+// The first n of a room of records, each by net and time.
+pub fn put_records(out: &mut [u8; 8192], at: usize, room: [StepRecord; 20000], n: usize) -> usize
+    requires { ⌜ n ≤ 20000 ⌝ }
+{
+    let mut end = put_text(out, at, b" |");
+    let mut i: usize = 0;
+    while i < n {
+        let step = room[i];
+        end = put(out, end, b' ');
+        end = put_decimal(out, end, step.net as u64);
+        end = put(out, end, b':');
+        end = put_decimal(out, end, step.time as u64);
         i += 1;
     }
     end

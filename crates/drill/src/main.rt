@@ -3,7 +3,7 @@
 // and changes nothing.
 //
 //     load HEX | rest HEX | vector HEX | steps HEX
-//     history WORDS BEFORES FLAGS | list NETS TIMES | net N | trace N TIME ROOM
+//     history WORDS BEFORES FLAGS | list NETS TIMES | records ROOM | net N | trace N TIME ROOM
 //     bench HEX ORDER K ROOM
 mod answers;
 mod operations;
@@ -23,6 +23,7 @@ use operations::history_line;
 use operations::list_line;
 use operations::move_line;
 use operations::net_line;
+use operations::records_line;
 use operations::trace_line;
 
 // What a line leaves: the session, and how far the answers' buffer is filled.
@@ -47,6 +48,10 @@ fn answer(session: Session, line: &[u8], bytes: &mut [u8], out: &mut [u8; 8192],
             let end = list_line(session, a, b, out, at);
             Turn { session, at: end }
         }
+        Command::Records(room) => {
+            let end = records_line(session, room, out, at);
+            Turn { session, at: end }
+        }
         Command::History(a, b, c) => {
             let end = history_line(session, a, b, c, out, at);
             Turn { session, at: end }
@@ -59,7 +64,7 @@ fn answer(session: Session, line: &[u8], bytes: &mut [u8], out: &mut [u8; 8192],
             let end = net_line(session, n, out, at);
             Turn { session, at: end }
         }
-        _ => {
+        Command::Bad => {
             let end = put(out, at, b'?');
             Turn { session, at: end }
         }

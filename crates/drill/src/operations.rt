@@ -1,18 +1,23 @@
 // Each operation by its line: it is called, and its answer put.
+ghost use mathlib.Core.Path.{_≡_};
 ghost use mathlib.Core.List.{[]};
 ghost use Prim.Native.Nat.{_≤_};
 ghost use lib.ListN.{length, getD};
 ghost use Rattle.drill_text.specs.Parts.{words};
 ghost use Rattle.drill_text.specs.Digits.{bytesOf, Filled};
 ghost use Rattle.drill.specs.Kept.{Kept};
+ghost use Rattle.drill.specs.Rooms.{recordedIn};
 use crate::Turn;
 use crate::answers::put_answer;
 use crate::answers::put_bytes;
 use crate::answers::put_net;
 use crate::answers::put_nets;
+use crate::answers::put_records;
 use crate::answers::put_words;
 use card::Session;
+use rule::Answer;
 use session::Moved;
+use step_records::StepRecord;
 
 // The bytes of a line's word 1, put at the start of `bytes`; how many there are.
 fn bytes_of(line: &[u8], bytes: &mut [u8]) -> usize
@@ -162,6 +167,38 @@ pub fn list_line(session: Session, a: u64, b: u64, out: &mut [u8; 8192], at: usi
     let i = a as usize;
     let j = b as usize;
     put_list(session, &mut nets[..i], &mut times[..j], out, at)
+}
+
+// What the step list as records answers, and all the room that a part was lent of.
+struct Recorded {
+    answer: Answer,
+    room: [StepRecord; 20000],
+}
+
+// The step list into a lent room of n records.
+fn record_list(session: Session, n: usize) -> Recorded
+    requires { ⌜ (Kept session) × (n ≤ 20000) ⌝ }
+    ensures { λ r. ⌜ r ≡ recordedIn session n ⌝ }
+{
+    let mut room = [StepRecord {
+        net: 170,
+        time: 170,
+    }; 20000];
+    let answer = step_records::list_records(session, &mut room[..n]);
+    Recorded { answer, room }
+}
+
+// records ROOM
+pub fn records_line(session: Session, room: u64, out: &mut [u8; 8192], at: usize) -> usize
+    requires { ⌜ Kept session ⌝ }
+    requires { ⌜ room ≤ 20000 ⌝ }
+{
+    let n = room as usize;
+    let left = record_list(session, n);
+    let answer = left.answer;
+    let records = left.room;
+    let head = put_answer(out, at, answer);
+    put_records(out, head, records, n)
 }
 
 // A trace into a lent room, and the room.

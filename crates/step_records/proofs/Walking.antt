@@ -2,11 +2,11 @@
 -- types, since types that are written out are dear to check at each of its steps. Assumes nothing.
 use mathlib.Core.Path.{_≡_, refl, sym, subst, _∙_}
 use mathlib.Core.Bool.{Bool, true, false}
-use Prim.Native.Nat.{ℕ, _+_, _-_, _≤_, _<_}
+use Prim.Native.Nat.{ℕ, zero, suc, _+_, _-_, _≤_, _<_}
 use native.Mathlib.Omega.{arith}
 use native.Mathlib.Nat.{le-antisymm}
 use mathlib.Core.List.{[], _∷_, List, map}
-use lib.ListN.{length, length-map}
+use lib.ListN.{length, replicate, length-map, length-replicate}
 use lib.WfN.{Nat·lt-wfRel}
 use lib.Dec.{T as Holds, ltb}
 use borrow.Author.Tests.{ltb-true, ltb-false}
@@ -19,14 +19,14 @@ use base.Fml.{fsep, fat, froom, fdies}
 use prog.Wp.{Heap, Out, Env, Calls, Loops, Tables, Wp, WpFn, afterTurn, atReturn}
 use sound.Loop.{loop-rule}
 use ghost.Atoms.{Atoms, sem}
-use types.Kit.{Given, Item, ‵, ⋆, _$_, _∵_, !, qed, by, move, drop, use1, rewrite, fsplit, fjoin, fpick, fpack, feqI, done}
+use types.Kit.{Given, Item, ‵, ⋆, some, given, _$_, _∵_, !, qed, by, move, drop, use1, rewrite, pick, learn, show, check, fsplit, fjoin, fpick, fpack, feqI, done}
 use types.Run.{init, forget, enter, alloc1, alloc0, params1, pass1, pass0}
 use types.Share.{arr-parts}
 use denote.RattleType.{RattleType}
 use denote.Memory.{shares, cellAt, partAt, partOf}
 use denote.Shadow.{shadow}
 use denote.Laws.{Is, shows}
-use denote.Array.{Array, each, array-makes}
+use denote.Array.{Array, each, arrayVal, array-makes}
 use denote.ArrayMemory.{array-apart, array-whole}
 use denote.Index.{row}
 use denote.Steps.{owned, peeks}
@@ -35,47 +35,81 @@ use Rattle.step_records.specs.declared.StepRecord.{StepRecord}
 use Rattle.step_records.proofs.StepRecord as S
 use Rattle.step_records.proofs.StepRecord.Laws as S′
 
-abbrev pub Records : RattleType
-Records = Array S.the-row 4096
+-- an array of n records; as a field it holds them as tuples
+abbrev pub Records : ℕ → RattleType
+Records n = Array S.the-row n
 
-abbrev pub recordsTy : Ty
-recordsTy = tyArray S′.mir 4096
+abbrev pub recordsTy : ℕ → Ty
+recordsTy n = tyArray S′.mir n
 
--- a field that is an array of structs holds them as tuples
-abbrev Tuples : RattleType
-Tuples = Array (S.the-field .row) 4096
+abbrev Tuples : ℕ → RattleType
+Tuples n = Array (S.the-field .row) n
 
-each-record : (xs : List StepRecord) (us : List Val) → shadow (each (S.the-field .row .Denot) (S.the-field .row .own) (map (S.the-field .into) xs) us)
-    → shadow (each StepRecord (S.the-row .own) xs us)
+abbrev EachRecord : List StepRecord → List Val → Type 0
+EachRecord xs us = shadow (each StepRecord (S.the-row .own) xs us)
+
+abbrev EachTuple : List StepRecord → List Val → Type 0
+EachTuple xs us = shadow (each (S.the-field .row .Denot) (S.the-field .row .own) (map (S.the-field .into) xs) us)
+
+each-record : (xs : List StepRecord) (us : List Val) → EachTuple xs us → EachRecord xs us
 each-record [] [] p = p
 each-record [] (u ∷ us) p = p
 each-record (x ∷ xs) [] p = p
 each-record (x ∷ xs) (u ∷ us) p = (p .0, each-record xs us (p .1))
 
-pub as-records : (xs : List StepRecord) (vs : List Val) → Is Tuples (map (S.the-field .into) xs) vs → Is Records xs vs
-as-records xs vs p = (p .0, ((p .1 .0 .0, sym (length-map xs (S.the-field .into)) ∙ p .1 .0 .1), each-record xs (p .0) (p .1 .1)))
+each-tuple : (xs : List StepRecord) (us : List Val) → EachRecord xs us → EachTuple xs us
+each-tuple [] [] p = p
+each-tuple [] (u ∷ us) p = p
+each-tuple (x ∷ xs) [] p = p
+each-tuple (x ∷ xs) (u ∷ us) p = (p .0, each-tuple xs us (p .1))
 
-module _ {M : Type 1} (𝓤 : URA M) (H : Heap 𝓤) (A : Atoms 𝓤) (W : Given 𝓤 H A) (l : ℕ) (xs : List StepRecord) where
+pub as-records : (n : ℕ) (xs : List StepRecord) (vs : List Val) → Is (Tuples n) (map (S.the-field .into) xs) vs → Is (Records n) xs vs
+as-records n xs vs p = (p .0, ((p .1 .0 .0, sym (length-map xs (S.the-field .into)) ∙ p .1 .0 .1), each-record xs (p .0) (p .1 .1)))
+
+pub as-tuples : (n : ℕ) (xs : List StepRecord) (vs : List Val) → Is (Records n) xs vs → Is (Tuples n) (map (S.the-field .into) xs) vs
+as-tuples n xs vs p = (p .0, ((p .1 .0 .0, length-map xs (S.the-field .into) ∙ p .1 .0 .1), each-tuple xs (p .0) (p .1 .1)))
+
+-- one record, n times
+each-same : (x : StepRecord) (u : Val) → Is S.the-row x (u ∷ []) → (n : ℕ) → EachRecord (replicate n x) (replicate n u)
+each-same x u is zero = tt
+each-same x u is (suc n) = (is, each-same x u is n)
+
+pub all-same : (x : StepRecord) (u : Val) → Is S.the-row x (u ∷ []) → (n : ℕ) → Is (Records n) (replicate n x) (arrayVal (replicate n u) ∷ [])
+all-same x u is n = (replicate n u, ((refl, length-replicate n x), each-same x u is n))
+
+module _ {M : Type 1} (𝓤 : URA M) (H : Heap 𝓤) (A : Atoms 𝓤) (W : Given 𝓤 H A) (n l : ℕ) (xs : List StepRecord) where
   -- a local array of records, by its elements,
-  pub apart : (u : Val) → Is Records xs (u ∷ []) → ent 𝓤 (sem 𝓤 H A (fat fullShare recordsTy l 0 u)) (sem 𝓤 H A (row S.the-row fullShare xs l 0))
+  pub apart : (u : Val) → Is (Records n) xs (u ∷ [])
+      → ent 𝓤 (sem 𝓤 H A (fat fullShare (recordsTy n) l 0 u)) (sem 𝓤 H A (row S.the-row fullShare xs l 0))
   unfolding partOf
   apart u is =
-      qed W (‵ (fat fullShare recordsTy l 0 u) ∷ []) ∵
-      use1 W (‵ (cellAt fullShare (Records .mir) (u ∷ []) l 0)) (W .laws .at-raw fullShare recordsTy l 0 u) $
-      owned ! Records (Is Records) (array-makes 𝓤 H A W S.the-row (LL.makes S.the-type S′.the-plain 𝓤 H A) 4096) xs (u ∷ []) is $
-      move ! (1 ∷ 0 ∷ []) $ fjoin ! $ fpack ! (List Val) (λ vs. fsep (cellAt fullShare (Records .mir) vs l 0) (Records .own xs vs)) (u ∷ []) $
-      use1 W (‵ (arr-parts (shares S.the-row) 4096 .part fullShare xs l 0)) (array-apart 𝓤 H A W S.the-row fullShare tt 4096 xs l 0) $
+      qed W (‵ (fat fullShare (recordsTy n) l 0 u) ∷ []) ∵
+      use1 W (‵ (cellAt fullShare (Records n .mir) (u ∷ []) l 0)) (W .laws .at-raw fullShare (recordsTy n) l 0 u) $
+      owned ! (Records n) (Is (Records n)) (array-makes 𝓤 H A W S.the-row (LL.makes S.the-type S′.the-plain 𝓤 H A) n) xs (u ∷ []) is $
+      move ! (1 ∷ 0 ∷ []) $ fjoin ! $ fpack ! (List Val) (λ vs. fsep (cellAt fullShare (Records n .mir) vs l 0) (Records n .own xs vs)) (u ∷ []) $
+      use1 W (‵ (arr-parts (shares S.the-row) n .part fullShare xs l 0)) (array-apart 𝓤 H A W S.the-row fullShare tt n xs l 0) $
       fsplit ! $ drop ! $ done !
 
-  -- and the room that it leaves
-  pub emptied : length xs ≡ 4096 → ent 𝓤 (sem 𝓤 H A (row S.the-row fullShare xs l 0)) (sem 𝓤 H A (froom recordsTy l 0))
+  -- put together again,
+  abbrev pub Whole : Val → SProp 𝓤
+  Whole u = guard 𝓤 (Is (Records n) xs (u ∷ [])) (sem 𝓤 H A (fat fullShare (recordsTy n) l 0 u))
+
+  pub together : length xs ≡ n → ent 𝓤 (sem 𝓤 H A (row S.the-row fullShare xs l 0)) (ex 𝓤 Whole)
   unfolding partOf
+  together e =
+      qed W (‵ (row S.the-row fullShare xs l 0) ∷ []) ∵ feqI ! ℕ (length xs) n e $ fjoin ! $
+      use1 W (‵ (partAt (Records n) fullShare xs l 0)) (array-whole 𝓤 H A W S.the-row fullShare n xs l 0) $
+      fpick ! (λ vs. fsplit ! $ move ! (1 ∷ []) $ peeks ! (Records n) (Is (Records n)) (shows 𝓤 H A (Records n)) xs vs (λ is. drop ! $
+      rewrite ! 0 (λ (us : List Val). ‵ (cellAt fullShare (Records n .mir) us l 0)) (is .1 .0 .0) refl $
+      use1 W (‵ (fat fullShare (recordsTy n) l 0 (arrayVal (is .0)))) (W .laws .raw-at fullShare (recordsTy n) l 0 (arrayVal (is .0))) $
+      show ! Whole (arrayVal (is .0)) $ check ! (is .0, ((refl, is .1 .0 .1), is .1 .1)) $ done !))
+
+  -- and the room that it leaves
+  pub emptied : length xs ≡ n → ent 𝓤 (sem 𝓤 H A (row S.the-row fullShare xs l 0)) (sem 𝓤 H A (froom (recordsTy n) l 0))
   emptied e =
-      qed W (‵ (row S.the-row fullShare xs l 0) ∷ []) ∵ feqI ! ℕ (length xs) 4096 e $ fjoin ! $
-      use1 W (‵ (partAt Records fullShare xs l 0)) (array-whole 𝓤 H A W S.the-row fullShare 4096 xs l 0) $
-      fpick ! (λ vs. fsplit ! $ move ! (1 ∷ []) $ peeks ! Records (Is Records) (shows 𝓤 H A Records) xs vs (λ is. drop ! $
-      rewrite ! 0 (λ (us : List Val). ‵ (cellAt fullShare (Records .mir) us l 0)) (is .1 .0 .0) refl $
-      use1 W (‵ (fat fullShare recordsTy l 0 _)) (W .laws .raw-at fullShare recordsTy l 0 _) $ forget ! 0 refl $ done !))
+      qed W (‵ (row S.the-row fullShare xs l 0) ∷ []) ∵
+      use1 W (some (λ (u : Val). given (Is (Records n) xs (u ∷ [])) (‵ (fat fullShare (recordsTy n) l 0 u)))) (together e) $
+      pick ! (λ u. learn ! (λ is. forget ! 0 refl $ done !))
 
 module _ {M : Type 1} {𝓤 : URA M} where
   -- a local that holds nothing, and one that holds a value

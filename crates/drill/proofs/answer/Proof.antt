@@ -62,6 +62,15 @@ list-line-requires c κs =
     let start = told .before .before .before .before .before in
     (start .pre .0, told-rooms _ _ _ (told .before .before .command-of .ensures) (told .a .given .1))
 
+enum-known-room : tie.Need-enum-known-room
+enum-known-room c = search needs
+
+records-line-requires : tie.Need-records-line-requires
+records-line-requires c κs =
+    let told = c .before .before in
+    let start = told .before .before .before .before .before in
+    (start .pre .0, told-rooms _ _ _ (told .before .before .command-of .ensures) (told .room .given .1))
+
 enum-known-a-2 : tie.Need-enum-known-a-2
 enum-known-a-2 c = search needs
 
@@ -85,6 +94,9 @@ enum-known-n-2 c = search needs
 
 net-line-requires : tie.Need-net-line-requires
 net-line-requires c κs = search needs
+
+enum-told-5 : tie.Need-enum-told-5
+enum-told-5 c = search needs
 
 put-requires : tie.Need-put-requires
 put-requires c κs = search needs
@@ -134,6 +146,9 @@ returns-9 c = search needs
 returns-10 : tie.Need-returns-10
 returns-10 c = search needs
 
+returns-11 : tie.Need-returns-11
+returns-11 c = search needs
+
 pub answer-spec : {M : Type 1} → statement M
 answer-spec =
     tie.close
@@ -151,12 +166,15 @@ answer-spec =
     bench-line-requires
     enum-known-a
     list-line-requires
+    enum-known-room
+    records-line-requires
     enum-known-a-2
     history-line-requires
     enum-known-n
     trace-line-requires
     enum-known-n-2
     net-line-requires
+    enum-told-5
     put-requires
     same-length
     returns
@@ -172,4 +190,5 @@ answer-spec =
     returns-7
     returns-8
     returns-9
-    returns-10)
+    returns-10
+    returns-11)

@@ -146,7 +146,7 @@ module _ {M : Type 1} (𝓤 : URA M) (H : Heap 𝓤) (A : Atoms 𝓤) (W : Given
 
     abbrev En : Env 𝓤 H
     En =
-        (An′.mir, l₀) ∷ (Se′.mir, l₁) ∷ (roomTy, l₂) ∷ (Li′.mir, l₃) ∷ (word, l₄) ∷ (recordsTy, l₅) ∷ (word, l₆) ∷ (word, l₇) ∷ (tyBool, l₈)
+        (An′.mir, l₀) ∷ (Se′.mir, l₁) ∷ (roomTy, l₂) ∷ (Li′.mir, l₃) ∷ (word, l₄) ∷ (recordsTy 4096, l₅) ∷ (word, l₆) ∷ (word, l₇) ∷ (tyBool, l₈)
         ∷ (word, l₉) ∷ (tyPtr, l₁₀) ∷ (tyPtr, l₁₁) ∷ (S′.mir, l₁₂) ∷ (word, l₁₃) ∷ (tyPtr, l₁₄) ∷ []
 
     -- the locals of a turn, with nothing in them; the parameters', and the room for the result
@@ -158,14 +158,16 @@ module _ {M : Type 1} (𝓤 : URA M) (H : Heap 𝓤) (A : Atoms 𝓤) (W : Given
 
     -- at the entry, before the call, and when the callee's result u is there
     abbrev Begun : List (Item 𝓤)
-    Begun = Turning (clear word l₇ (clear word l₆ (clear recordsTy l₅ (clear word l₄ (clear Li′.mir l₃ (Passed Lent))))))
+    Begun = Turning (clear word l₇ (clear word l₆ (clear (recordsTy 4096) l₅ (clear word l₄ (clear Li′.mir l₃ (Passed Lent))))))
 
     abbrev Ready : List (Item 𝓤)
-    Ready = Turning (holding word l₇ (vint w64 (length ys)) (clear word l₆ (clear recordsTy l₅ (clear word l₄ (clear Li′.mir l₃ (Passed Lent))))))
+    Ready =
+        Turning (holding word l₇ (vint w64 (length ys)) (clear word l₆ (clear (recordsTy 4096) l₅ (clear word l₄ (clear Li′.mir l₃ (Passed Lent))))))
 
     abbrev Landed : Val → List (Item 𝓤)
     Landed u =
-        Turning (holding word l₇ (vint w64 (length ys)) (clear word l₆ (clear recordsTy l₅ (clear word l₄ (holding Li′.mir l₃ u (Passed Lent))))))
+        Turning (holding word l₇ (vint w64 (length ys))
+        (clear word l₆ (clear (recordsTy 4096) l₅ (clear word l₄ (holding Li′.mir l₃ u (Passed Lent))))))
 
     -- The callee has found r
     module _ (r : Listing) (r-is : r ≡ listingOf s (length ys)) (r-held : Is Li.the-row r (LL.vals Li.the-type Li′.the-laws r)) where
@@ -191,8 +193,8 @@ module _ {M : Type 1} (𝓤 : URA M) (H : Heap 𝓤) (A : Atoms 𝓤) (W : Given
       n-fits : n < 2 ^ 64
       n-fits = LL.owed Li.the-type Li′.the-laws r _ r-held .1 .0 .1
 
-      array-is : Is Records xs (array ∷ [])
-      array-is = as-records xs (array ∷ []) (LL.owed Li.the-type Li′.the-laws r _ r-held .1 .1 .0)
+      array-is : Is (Records 4096) xs (array ∷ [])
+      array-is = as-records 4096 xs (array ∷ []) (LL.owed Li.the-type Li′.the-laws r _ r-held .1 .1 .0)
 
       size : length xs ≡ 4096
       size = array-is .1 .0 .1
@@ -237,7 +239,7 @@ module _ {M : Type 1} (𝓤 : URA M) (H : Heap 𝓤) (A : Atoms 𝓤) (W : Given
           ‵ (row S.the-row fullShare (F i) b o) ∷ ‵ (fobor κ q (Held S.the-row (length ys) b o γ)) ∷ ‵ (fobs γ (coded ys)) ∷ ‵ (fauth γ (coded ys))
           ∷ ‵ (row S.the-row fullShare xs l₅ 0)
           ∷ Turning (holding word l₇ (vint w64 (length ys))
-          (holding word l₆ (vint w64 i) (‵ (fdies recordsTy l₅) ∷ holding word l₄ (vint w64 n) (holding Li′.mir l₃ found (Passed [])))))
+          (holding word l₆ (vint w64 i) (‵ (fdies (recordsTy 4096) l₅) ∷ holding word l₄ (vint w64 n) (holding Li′.mir l₃ found (Passed [])))))
 
       abbrev after : Body
       after = code-mir.t-7
@@ -316,7 +318,7 @@ module _ {M : Type 1} (𝓤 : URA M) (H : Heap 𝓤) (A : Atoms 𝓤) (W : Given
           (look-in ! 26 {τ = An′.mir} (sub ! 0 {τ = An′.mir} {d = 0} refl (whole !))))) (from ! (stop !))
           (init ! 32 refl (EL.lawful An.the-type An′.the-laws 𝓤 H A W tt .typed (r .answer) _ answer-is .0)) $
           closes-slice ! tt S.the-row ys (F n) same b o $
-          move ! (3 ∷ []) $ use1 W (‵ (froom recordsTy l₅ 0)) (emptied 𝓤 H A W l₅ xs size) $
+          move ! (3 ∷ []) $ use1 W (‵ (froom (recordsTy 4096) l₅ 0)) (emptied 𝓤 H A W 4096 l₅ xs size) $
           -- [room for _5; obs; the borrow; the token; the other locals]
           returns ! (look ! 31 refl) $ forget ! 16 refl $ forget ! 18 refl $ forget ! 20 refl $ forget ! 23 refl $ forget ! 25 refl $
           forget ! 27 refl $ forget ! 29 refl $ forget ! 31 refl $
@@ -336,10 +338,10 @@ module _ {M : Type 1} (𝓤 : URA M) (H : Heap 𝓤) (A : Atoms 𝓤) (W : Given
           assigns ! (of-opd ! (load ! (from ! (fld ! {d = 16} refl (stop !))) (look-in ! 22 {τ = word} (sub ! 1 {d = 16} refl (whole !)))))
           (from ! (stop !)) (init ! 20 refl (tt, record { fits = n-fits })) $
           assigns ! (of-opd ! (load ! (from ! (fld ! {d = 24} refl (stop !)))
-          (look-in ! 22 {τ = recordsTy} (sub ! 2 {τ = recordsTy} {d = 24} refl (whole !))))) (from ! (stop !))
+          (look-in ! 22 {τ = recordsTy 4096} (sub ! 2 {τ = recordsTy 4096} {d = 24} refl (whole !))))) (from ! (stop !))
           (init ! 18 refl (array-lawful 𝓤 H A W S.the-row (LL.lawful S.the-type S′.the-laws 𝓤 H A W) 4096 .typed xs _ array-is .0)) $
           assigns ! (of-opd ! (lit ! tt)) (from ! (stop !)) (init ! 16 refl (tt, record { fits = lit< tt })) $
-          move ! (18 ∷ []) $ use1 W (‵ (row S.the-row fullShare xs l₅ 0)) (apart 𝓤 H A W l₅ xs array array-is) $
+          move ! (18 ∷ []) $ use1 W (‵ (row S.the-row fullShare xs l₅ 0)) (apart 𝓤 H A W 4096 l₅ xs array array-is) $
           move ! (30 ∷ 31 ∷ 32 ∷ []) $ opens-slice ! tt S.the-row ys b o $
           rewrite ! 0 (λ (zs : List StepRecord). ‵ (row S.the-row fullShare zs b o)) (fills-none blank taken ys) refl $
           by ! loops
@@ -387,7 +389,7 @@ module _ {M : Type 1} (𝓤 : URA M) (H : Heap 𝓤) (A : Atoms 𝓤) (W : Given
       -- [what they own; the token]: the facts are dropped, and made again at the call and at the exit
       fsplit ! $ drop ! $ fsplit ! $ fsplit ! $ drop ! $ fsplit ! $ move ! (2 ∷ []) $ drop ! $
       -- [obs; the borrow; the token]
-      by ! (begins 𝓤 H A W (𝓣 .C) (𝓣 .Λ) An′.mir Se′.mir roomTy Li′.mir word recordsTy word word tyBool word tyPtr tyPtr S′.mir word tyPtr
+      by ! (begins 𝓤 H A W (𝓣 .C) (𝓣 .Λ) An′.mir Se′.mir roomTy Li′.mir word (recordsTy 4096) word word tyBool word tyPtr tyPtr S′.mir word tyPtr
       code-mir.t-1 m lent s-typed (tt, (tt, (record { fits = fits .0 }, tt))) Lent Post
       (λ l₀ l₁ l₂ l₃ l₄ l₅ l₆ l₇ l₈ l₉ l₁₀ l₁₁ l₁₂ l₁₃ l₁₄. starts 𝓣 l₀ l₁ l₂ l₃ l₄ l₅ l₆ l₇ l₈ l₉ l₁₀ l₁₁ l₁₂ l₁₃ l₁₄ known))
 
