@@ -5,47 +5,36 @@ use mathlib.Core.List.{List}
 use Prim.Native.Nat.{ℕ, _≤_, _<_}
 use native.Mathlib.Omega.{arith}
 use lib.Dec.{eqb, leb}
-use lib.ListN.{length, getD, take}
+use lib.ListN.{length, getD}
 use borrow.Author.Tests.{eqb-true, le-leb, lt-leb}
-use Rattle.lists.specs.Listed.{listed}
-use Rattle.lists.proofs.Listed.{listed-at, listed-ext}
 use Rattle.rule.specs.Net.{Net}
 use Rattle.rule.specs.Steps.{Step, stepList}
 use Rattle.rule.specs.declared.Refusal.{Refusal}
 use Rattle.rule.specs.declared.Refusal.the-variants.{NotReady, OrderLength, OrderEntry, OrderEarly, TooManyAsked, NoRoom}
-use Rattle.rule.specs.declared.Answer.the-variants.{Done}
 use Rattle.rule.proofs.StepLists.{list-only}
 use Rattle.wiring.specs.declared.Verdict.{Verdict}
 use Rattle.wiring.specs.declared.Verdict.the-variants.{Refused as Faulty, Passed}
 use Rattle.card.specs.declared.Session.{Session}
 use Rattle.card.specs.Session.{cardOf}
 use Rattle.card.specs.Held.{HasCard}
-use Rattle.card.proofs.Kept.{card-steps}
 use Rattle.session.specs.declared.Moved.{Moved}
 use Rattle.session.specs.declared.Inputs.{Inputs}
-use Rattle.session.specs.Inputs.{given, vectorFits, valuesRead, inputsRead}
-use Rattle.session.specs.Fields.{startAt}
-use Rattle.session.specs.Moves.{refusedMove, ends}
-use Rattle.history.specs.Filled.{filled}
-use Rattle.steps.specs.Variables.{numbered, ran}
-use Rattle.steps.specs.Listing.{noStep, stepAt, stepsIn, gatesIn, Holds}
-use Rattle.steps.specs.Vector.{startVars, ranAlong, ranSession}
-use Rattle.steps.proofs.Cards.{steps-are, step-low}
-use Rattle.steps.proofs.Lists.{hold-same}
-use Rattle.steps.proofs.Vectors.{held-steps}
-use Rattle.bench.specs.Orders.{entriesFit, stepsOf, orderReady, orderJudged}
+use Rattle.session.specs.Inputs.{vectorFits, inputsRead}
+use Rattle.session.specs.Moves.{refusedMove}
+use Rattle.session.proofs.Answers.{verdict-is as read-fits, values-given}
+use Rattle.steps.specs.Listing.{noStep, stepsIn, gatesIn, Holds}
+use Rattle.steps.proofs.Cards.{list-held, list-total, list-few, step-low}
+use Rattle.steps.proofs.Vectors.{held-net, held-time}
+use Rattle.bench.specs.Orders.{entriesFit, orderReady, orderJudged}
 use Rattle.bench.specs.Ready.{StepEntry, Named, Taken, judgedIn}
-use Rattle.bench.specs.Bench.{Benched, byteAt, benchRefused, benchDone, benchOrder, benchVector, benchOf}
+use Rattle.bench.specs.Bench.{Benched, benchRefused, benchDone, benchOrder, benchVector, benchOf}
 use Rattle.bench.proofs.Judging.{at-in, entries-of}
 use Rattle.bench.proofs.Ties.{judged-is}
 
 -- The list in two arrays
 
 pub held-named : {ks : List Step} {nets₀ times₀ nets times : List ℕ} {n : ℕ} → Holds ks nets₀ times₀ nets times n → length nets₀ ≡ 4096 → length times₀ ≡ 4096 → n ≤ 4096 → Named ks nets times
-held-named {ks} {nets₀} {times₀} {nets} {times} {n} h ln lt few = record { net-is = λ e l. ap (λ k. k .net) (at e l); time-is = λ e l. ap (λ k. k .time) (at e l) }
-  where
-    at : (e : ℕ) → e < length ks → numbered nets times e ≡ stepAt ks e
-    at e l = sym (listed-at (numbered nets times) n e noStep (omega (arith, h .size))) ∙ ap (λ xs. stepAt xs e) (held-steps h ln lt few)
+held-named h ln lt few = record { net-is = held-net h ln lt few; time-is = held-time h ln lt few }
 
 -- a verdict that passes
 passed-tests : (a b r : Bool) → cond a (cond b (cond r Passed (Faulty OrderEarly)) (Faulty OrderEntry)) (Faulty OrderLength) ≡ Passed → (a ≡ true) × (b ≡ true)
@@ -59,39 +48,30 @@ module _ (s : Session) (h : HasCard s) where
 
   module _ {nets₀ times₀ nets times : List ℕ} {total : ℕ} (held : Holds (stepsIn (s .sets) (gatesIn (s .order) (s .gates))) nets₀ times₀ nets times total)
       (ln : length nets₀ ≡ 4096) (lt : length times₀ ≡ 4096) where
-    of-card : Holds (stepList c) nets₀ times₀ nets times total
-    of-card = hold-same (steps-are s h) held
-
-    pub list-total : total ≡ length (stepList c)
-    list-total = of-card .size
-
-    pub list-few : total ≤ 4096
-    list-few = omega (arith, list-total, card-steps s h)
-
     list-named : Named (stepList c) nets times
-    list-named = held-named of-card ln lt list-few
+    list-named = held-named (list-held s h held) ln lt (list-few s h held)
 
     pub list-entry : (e : ℕ) → e < total → StepEntry nets times e
     list-entry e l =
-        let b : e < length (stepList c) = omega (arith, list-total) in
+        let b : e < length (stepList c) = omega (arith, list-total s h held) in
         let r = step-low s h _ (list-only c _ (at-in (stepList c) e noStep b)) in
         let n = list-named .net-is e b in
         let t = list-named .time-is e b in
-        record { number = omega (arith, list-few); net = omega (arith, r .0); early = omega (arith, r .1); late = omega (arith, r .2) }
+        record { number = omega (arith, list-few s h held); net = omega (arith, r .0); early = omega (arith, r .1); late = omega (arith, r .2) }
 
     module _ (order : List ℕ) (verdict : Verdict) (judged : verdict ≡ judgedIn (s .counts) (s .places) (s .sets) nets times total order) where
       pub verdict-is : verdict ≡ orderJudged c order
-      verdict-is = judged ∙ ap (λ n. judgedIn (s .counts) (s .places) (s .sets) nets times n order) list-total ∙ judged-is s h nets times order list-named
+      verdict-is = judged ∙ ap (λ n. judgedIn (s .counts) (s .places) (s .sets) nets times n order) (list-total s h held) ∙ judged-is s h nets times order list-named
 
       pub passed-taken : verdict ≡ Passed → Taken c nets times total order
       unfolding orderJudged
       passed-taken e =
           let p = passed-tests (eqb (length order) (length (stepList c))) (entriesFit (length (stepList c)) order) (orderReady c order) (sym verdict-is ∙ e) in
           record {
-            total-is = list-total;
+            total-is = list-total s h held;
             named = list-named;
-            long = eqb-true (length order) (length (stepList c)) (p .0) ∙ sym list-total;
-            below = λ x m. omega (arith, list-total, entries-of (length (stepList c)) order (p .1) .0 x m);
+            long = eqb-true (length order) (length (stepList c)) (p .0) ∙ sym (list-total s h held);
+            below = λ x m. omega (arith, list-total s h held, entries-of (length (stepList c)) order (p .1) .0 x m);
           }
 
 -- An order judged
@@ -141,37 +121,11 @@ module _ (s : Session) (v order : List ℕ) (k : ℕ) (room : List ℕ) where
   bench-unrested m e q = ap (λ x. record { moved = x; room = room }) q ∙ of-tests false _ e refl
 
   module _ (rested : s .rested ≡ true) (read : Inputs) (e : read ≡ inputsRead (s .kinds) (s .inputs) v) where
-    fits-is : (f : Verdict) → read .verdict ≡ f → vectorFits (s .inputs) v ≡ f
-    unfolding inputsRead
-    fits-is f q = sym (ap (λ x. x .verdict) e) ∙ q
-
     -- 10, 11
     pub bench-faulty : (why : Refusal) (m : Moved) → read .verdict ≡ Faulty why → m ≡ refusedMove s why → record { moved = m; room = room } ≡ benchOf s v order k room
-    bench-faulty why m q p = ap (λ x. record { moved = x; room = room }) p ∙ of-tests true (Faulty why) rested (fits-is (Faulty why) q)
+    bench-faulty why m q p = ap (λ x. record { moved = x; room = room }) p ∙ of-tests true (Faulty why) rested (sym (read-fits s v read e) ∙ q)
 
-    values-are : read .verdict ≡ Passed → read .values ≡ listed (given (s .kinds) v) 256
-    unfolding inputsRead
-    values-are q = ap (λ x. x .values) e ∙ ap (λ f. valuesRead f (s .kinds) v) (fits-is Passed q)
-
-    -- only the first 256 values count
-    done-same : (f g : ℕ → Bool) → ((n : ℕ) → n < 256 → f n ≡ g n) → benchDone s f order k room ≡ benchDone s g order k room
-    unfolding benchDone ranAlong startVars
-    done-same f g same =
-        ap
-        (λ values.
-        let r = ran (s .types) (s .counts) (s .places) (s .sets) (listed (startAt (s .kinds) values (listed (ends s) 256)) 256) (stepsOf (cardOf s) (take k order)) in
-        record {
-          moved = record { answer = Done (r .count); session = cond (eqb k (length (stepList (cardOf s)))) (ranSession s r) s };
-          room = filled (byteAt (cardOf s) (r .words) (take k order)) (length (stepList (cardOf s))) room;
-        })
-        (listed-ext f g 256 same)
-
-    order-same : (f g : ℕ → Bool) → ((n : ℕ) → n < 256 → f n ≡ g n) → (w : Verdict) → benchOrder s f order k room w ≡ benchOrder s g order k room w
-    order-same f g same (Faulty why) = refl
-    order-same f g same Passed =
-        ap (λ x. cond (leb k (length (stepList (cardOf s)))) (cond (leb (length (stepList (cardOf s))) (length room)) x (benchRefused s room NoRoom)) (benchRefused s room TooManyAsked)) (done-same f g same)
-
-    pub bench-run : (r : Benched) → read .verdict ≡ Passed → r ≡ benchOrder s (λ n. getD (read .values) n false) order k room (orderJudged (cardOf s) order) → r ≡ benchOf s v order k room
-    bench-run r q p =
-        p ∙ order-same _ (given (s .kinds) v) (λ n l. ap (λ xs. getD xs n false) (values-are q) ∙ listed-at (given (s .kinds) v) 256 n false l) (orderJudged (cardOf s) order)
-        ∙ of-tests true Passed rested (fits-is Passed q)
+    pub bench-run : HasCard s → (r : Benched) → read .verdict ≡ Passed → r ≡ benchOrder s (λ n. getD (read .values) n false) order k room (orderJudged (cardOf s) order)
+        → r ≡ benchOf s v order k room
+    bench-run h r q p =
+        p ∙ ap (λ f. benchOrder s f order k room (orderJudged (cardOf s) order)) (values-given s v read e h q) ∙ of-tests true Passed rested (sym (read-fits s v read e) ∙ q)

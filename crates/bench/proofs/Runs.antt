@@ -27,7 +27,7 @@ use Rattle.steps.specs.Variables.{Ran, ran, Doable, numbered, ordered, historie
 use Rattle.steps.specs.Listing.{noStep, stepAt}
 use Rattle.steps.specs.Vector.{startVars, ranAlong, ranSession}
 use Rattle.steps.proofs.Cards.{step-low, steps-doable}
-use Rattle.steps.proofs.Lists.{filled-same}
+use Rattle.steps.proofs.Rooms.{fills-same}
 use Rattle.bench.specs.Orders.{stepsOf}
 use Rattle.bench.specs.Ready.{Taken, orderSteps}
 use Rattle.bench.specs.Bench.{Benched, notDone, byteAt, byteIn, benchDone}
@@ -92,7 +92,7 @@ module _ (s : Session) (h : HasCard s) (nets times : List ℕ) (total : ℕ) (or
 
       written-is : written ≡ filled (byteAt c after (take k order)) (length (stepList c)) room
       written-is =
-          filled-is ∙ filled-same (byteIn after nets times done) (byteAt c after (take k order)) total room byte-is
+          filled-is ∙ fills-same 0 (byteIn after nets times done) (byteAt c after (take k order)) total room byte-is
           ∙ ap (λ n. filled (byteAt c after (take k order)) n room) (t .total-is)
 
       abbrev benchedAs : Ran → Session → Benched

@@ -24,12 +24,6 @@ use session::Moved;
 use wiring::Verdict;
 use word::PcSet;
 
-fn narrow(x: u8) -> u32
-    ensures { λ r. ⌜ r ≡ x ⌝ }
-{
-    x as u32
-}
-
 // Whether every entry of an order is a step's number, and none stands twice.
 fn entries_fit(order: &[u16], total: usize) -> bool
     requires { ⌜ total ≤ 4096 ⌝ }
@@ -112,7 +106,7 @@ fn order_ready<'a>(
     while i < order.len() {
         let e = wiring::wide16(order[i]);
         let g = wiring::wide16(nets[e]);
-        let t = narrow(times[e]);
+        let t = steps::narrow(times[e]);
         if !reads_done(&done, counts, places, sets, n, g, t) {
             return false;
         }
@@ -190,7 +184,7 @@ fn put_bytes<'a>(
     let mut e: usize = 0;
     while e < total {
         let g = wiring::wide16(nets[e]);
-        room[e] = step_byte(done[e], vars[g], narrow(times[e]));
+        room[e] = step_byte(done[e], vars[g], steps::narrow(times[e]));
         e += 1;
     }
 }

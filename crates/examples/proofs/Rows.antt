@@ -4,7 +4,6 @@ use mathlib.Core.Bool.{Bool, true, false, _&&_, true≢false}
 use mathlib.Core.List.{List, [], _∷_, map}
 use Prim.Native.Nat.{ℕ}
 use lib.Dec.{eqb}
-use lib.ListN.{length, getD, replicate}
 use borrow.Author.Tests.{eqb-true}
 use Rattle.lists.specs.Entries.{_∈_, every}
 use Rattle.lists.specs.Listed.{listed, listedFrom}
@@ -26,7 +25,6 @@ use Rattle.wiring.specs.Wired.{pinsFit, mostBack, wiredOf, setWords}
 use Rattle.records.specs.Bytes.{u16At, kindFits, typeFits, bodyFits, netRecord, recordAt, readAt}
 use Rattle.records.specs.Scan.{netMeant, scan}
 use Rattle.records.specs.Written.{netBytes, cardBytes}
-use Rattle.card.specs.declared.Session.{Session}
 use Rattle.card.specs.Session.{none, inputsOf, sessionOf, cardOf}
 use Rattle.card.specs.Load.{judged, loadOf}
 use Rattle.card.specs.Asked.{netAsked}
@@ -41,6 +39,10 @@ use Rattle.steps.specs.Listing.{listOf}
 use Rattle.steps.specs.Vector.{startVars, ranAlong, ranSession, stepsVectorOf}
 use Rattle.bench.specs.Orders.{entriesFit, orderReady, orderJudged}
 use Rattle.bench.specs.Bench.{notDone, benchDone, benchOf}
+use Rattle.text.specs.Text.{digitsIn, decimal}
+use Rattle.sheet_text.specs.Lines.{refusedLine, firstLine, values, netLine, cardText, historyLine, vectorText}
+use Rattle.sheet_text.specs.Walk.{endFrom, cardEnd, entryIn, entryAt}
+use Rattle.sheet_text.specs.Sheet.{recordsText, loadedText, sheetOf}
 use Rattle.examples.specs.Calls.{Engine, fields, steps, Call, Reply, replies}
 use Rattle.examples.specs.Table.{Line, table}
 
@@ -84,7 +86,7 @@ passes : Engine → List Line → Bool
 passes e row = sameBy sameReply (replies e none (calls row)) (expected e row)
 
 all-pass : every (λ row. passes fields row && passes steps row) table ≡ true
-unfolding passes table replies cardBytes netBytes u16At kindFits typeFits bodyFits netRecord recordAt readAt netMeant scan listed listedFrom loadOf judged none sessionOf wiredOf pinsFit mostBack openPin atPin netAt longest level depth gateOrder netSteps stepList pcSet setWords inputsOf count restOf vectorFits restedBy settled given rank value gate controls inverts controlled cardOf cardIn kindsOf typesOf countsOf placesOf openValue wordOf bit vectorOf movedBy histories ends historyOf flagOf changes causes wayBack traceOf netAsked listOf stepsVectorOf ranSession ranAlong startVars startAt ran stepIn readIn wordsOf varsOf historyWord historiesFrom greatest made step run ready readStep stepReads entriesFit orderReady orderJudged notDone benchDone benchOf
+unfolding passes table replies cardBytes netBytes u16At kindFits typeFits bodyFits netRecord recordAt readAt netMeant scan listed listedFrom loadOf judged none sessionOf wiredOf pinsFit mostBack openPin atPin netAt longest level depth gateOrder netSteps stepList pcSet setWords inputsOf count restOf vectorFits restedBy settled given rank value gate controls inverts controlled cardOf cardIn kindsOf typesOf countsOf placesOf openValue wordOf bit vectorOf movedBy histories ends historyOf flagOf changes causes wayBack traceOf netAsked listOf stepsVectorOf ranSession ranAlong startVars startAt ran stepIn readIn wordsOf varsOf historyWord historiesFrom greatest made step run ready readStep stepReads entriesFit orderReady orderJudged notDone benchDone benchOf digitsIn decimal refusedLine firstLine values netLine cardText historyLine vectorText endFrom cardEnd entryIn entryAt recordsText loadedText sheetOf
 all-pass = refl
 
 -- each example's sentence: the calls of its row hand back what the row says, by either engine

@@ -16,13 +16,14 @@ use Rattle.history.specs.Traced.{traceOf}
 use Rattle.steps.specs.Listing.{listOf}
 use Rattle.steps.specs.Vector.{stepsVectorOf}
 use Rattle.bench.specs.Bench.{benchOf}
+use Rattle.sheet_text.specs.Sheet.{sheetOf}
 
 -- "both engines, the step list and the bit-fields"
 pub data Engine : Type 0 where
   fields : Engine
   steps : Engine
 
--- an operation and what it is given; lent room is given by its length
+-- an operation and what it is given; lent room is given by its length. `print` is the sheet program on a session file
 pub data Call : Type 0 where
   load : List ℕ → Call
   rest : List ℕ → Call
@@ -32,8 +33,9 @@ pub data Call : Type 0 where
   ask : ℕ → Call
   trace : ℕ → ℕ → ℕ → Call
   bench : List ℕ → List ℕ → ℕ → ℕ → Call
+  print : List ℕ → Call
 
--- the number, the count, and every lent room after the call; of a question about a net its level and word
+-- the number, the count, and every lent room after the call; of a question about a net its level and word, of the sheet program what it prints
 pub record Reply : Type 0 where
   pub number : ℕ
   pub count : ℕ
@@ -74,6 +76,7 @@ turn e s (trace n t room) = let r = traceOf s n t (lent room) in record { sessio
 turn e s (bench v order k room) =
     let b = benchOf s v order k (lent room) in
     record { session = b .moved .session; reply = replied (b .moved .answer) (b .room ∷ []) }
+turn e s (print file) = record { session = s; reply = record { number = 0; count = 0; rooms = sheetOf file ∷ [] } }
 
 -- calls one after another
 unfoldable pub replies : Engine → Session → List Call → List Reply

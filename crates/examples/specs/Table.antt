@@ -3,7 +3,7 @@ use mathlib.Core.List.{List, [], _∷_, _++_}
 use Prim.Native.Nat.{ℕ, _-_, _^_}
 use Rattle.rule.specs.Net.{Net, input, gate, openPin}
 use Rattle.records.specs.Written.{cardBytes}
-use Rattle.examples.specs.Calls.{Engine, fields, steps, Call, load, rest, vector, history, list, ask, trace, bench, Reply}
+use Rattle.examples.specs.Calls.{Engine, fields, steps, Call, load, rest, vector, history, list, ask, trace, bench, print, Reply}
 
 -- a call, and what it hands back by an engine
 pub record Line : Type 0 where
@@ -38,6 +38,20 @@ exampleCard =
     ∷ 5 ∷ 0 ∷ 3 ∷ 0 ∷ 4 ∷ 3 ∷ 0 ∷ 2 ∷ 0
     ∷ 0 ∷ 0 ∷ 4 ∷ 0 ∷ []
 
+abbrev pub exampleFile : List ℕ
+exampleFile = exampleCard ++ (3 ∷ 0 ∷ 5 ∷ 0 ∷ 0 ∷ 1 ∷ 1 ∷ 3 ∷ 0 ∷ 6 ∷ 0 ∷ 1 ∷ 1 ∷ 0 ∷ [])
+
+-- "depth 2 steps 3", "vector 1", "0 0 111 1", "1 1 111 0", "2 1 000 1", "3 0 011 1", "4 1 101 2"
+abbrev pub exampleSheet : List ℕ
+exampleSheet =
+    100 ∷ 101 ∷ 112 ∷ 116 ∷ 104 ∷ 32 ∷ 50 ∷ 32 ∷ 115 ∷ 116 ∷ 101 ∷ 112 ∷ 115 ∷ 32 ∷ 51 ∷ 10
+    ∷ 118 ∷ 101 ∷ 99 ∷ 116 ∷ 111 ∷ 114 ∷ 32 ∷ 49 ∷ 10
+    ∷ 48 ∷ 32 ∷ 48 ∷ 32 ∷ 49 ∷ 49 ∷ 49 ∷ 32 ∷ 49 ∷ 10
+    ∷ 49 ∷ 32 ∷ 49 ∷ 32 ∷ 49 ∷ 49 ∷ 49 ∷ 32 ∷ 48 ∷ 10
+    ∷ 50 ∷ 32 ∷ 49 ∷ 32 ∷ 48 ∷ 48 ∷ 48 ∷ 32 ∷ 49 ∷ 10
+    ∷ 51 ∷ 32 ∷ 48 ∷ 32 ∷ 48 ∷ 49 ∷ 49 ∷ 32 ∷ 49 ∷ 10
+    ∷ 52 ∷ 32 ∷ 49 ∷ 32 ∷ 49 ∷ 48 ∷ 49 ∷ 32 ∷ 50 ∷ 10 ∷ []
+
 abbrev pub rested : List Line
 rested = (load exampleCard gives done 5 []) ∷ (rest (0 ∷ 1 ∷ 1 ∷ []) gives done 0 []) ∷ []
 
@@ -48,7 +62,8 @@ moved = rested ++ ((vector (1 ∷ 1 ∷ 0 ∷ []) gives stepped 3) ∷ [])
 abbrev pub p1 : List Line
 p1 =
     moved
-    ++ ((list 3 3 gives done 3 ((3 ∷ 4 ∷ 4 ∷ []) ∷ (1 ∷ 1 ∷ 2 ∷ []) ∷ []))
+    ++ ((print exampleFile gives done 0 (exampleSheet ∷ []))
+    ∷ (list 3 3 gives done 3 ((3 ∷ 4 ∷ 4 ∷ []) ∷ (1 ∷ 1 ∷ 2 ∷ []) ∷ []))
     ∷ (ask 3 gives done 0 ((1 ∷ 2 ∷ []) ∷ []))
     ∷ (ask 4 gives done 0 ((2 ∷ 6 ∷ []) ∷ []))
     ∷ (history 5 5 5 gives done 5 (

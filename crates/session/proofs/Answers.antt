@@ -27,7 +27,7 @@ module _ (s : Session) (v : List ℕ) where
   not-ready ready next e = ap (λ b. answered b next) (sym e)
 
   module _ (i : Inputs) (read : i ≡ inputsRead (s .kinds) (s .inputs) v) where
-    verdict-is : i .verdict ≡ vectorFits (s .inputs) v
+    pub verdict-is : i .verdict ≡ vectorFits (s .inputs) v
     unfolding inputsRead
     verdict-is = ap (λ x. x .verdict) read
 
@@ -35,14 +35,17 @@ module _ (s : Session) (v : List ℕ) where
     unfolding inputsRead
     values-are e = ap (λ x. x .values) read ∙ ap (λ x. valuesRead x (s .kinds) v) (sym verdict-is ∙ e)
 
+    -- the values that were read are those given
+    pub values-given : HasCard s → i .verdict ≡ Passed → (λ m. getD (i .values) m false) ≡ given (s .kinds) v
+    values-given h e = λ j m. (ap (λ xs. getD xs m false) (values-are e) ∙ given-listed s h v m) j
+
     by-verdict : (ready : Bool) (next : (ℕ → Bool) → Session) → ready ≡ true → (x : Verdict) → i .verdict ≡ x → moving s x 0 (next (given (s .kinds) v)) ≡ answered ready next
     by-verdict ready next l x e = ap (λ y. moving s y 0 (next (given (s .kinds) v))) (sym e ∙ verdict-is) ∙ ap (λ b. answered b next) (sym l)
 
     done : (ready : Bool) (next : (ℕ → Bool) → Session) → ready ≡ true → HasCard s → i .verdict ≡ Passed → (n : Session) → n ≡ next (λ m. getD (i .values) m false)
         → record { answer = Done 0; session = n } ≡ answered ready next
     done ready next l h e n q =
-        let same : (λ m. getD (i .values) m false) ≡ given (s .kinds) v = λ j m. (ap (λ xs. getD xs m false) (values-are e) ∙ given-listed s h v m) j in
-        ap (moving s Passed 0) (q ∙ ap next same) ∙ by-verdict ready next l Passed e
+        ap (moving s Passed 0) (q ∙ ap next (values-given h e)) ∙ by-verdict ready next l Passed e
 
     pub rest-faulty : s .loaded ≡ true → (why : Refusal) → i .verdict ≡ Faulty why → refusedMove s why ≡ restOf s v
     unfolding restOf

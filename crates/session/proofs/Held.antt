@@ -18,7 +18,7 @@ use Rattle.word.proofs.Words.{one-val}
 use Rattle.word.proofs.Sets.{count-cong}
 use Rattle.rule.specs.Net.{Net, input, constant, gate, netAt, pins, pinsOf, isSource}
 use Rattle.rule.specs.Steps.{gateOrder}
-use Rattle.rule.proofs.Nets.{not-open}
+use Rattle.rule.proofs.Nets.{not-open, gate-listed}
 use Rattle.rule.proofs.GateOrders.{out-order, order-once}
 use Rattle.wiring.specs.Layout.{Fits, kindOf, typeOf, kindsOf, typesOf}
 use Rattle.wiring.proofs.Layouts.{count-at, kind-at, kind-past, type-at}
@@ -50,7 +50,7 @@ module _ (s : Session) (h : HasCard s) where
   few-gates : length (gateOrder c) ≤ 256
   few-gates = let few = card-fits s h .fits .few in omega (arith, distinct-below (length c) (gateOrder c) (order-once c) (λ g m. out-order c g m .1))
 
-  order-back : listed (λ i. getD (s .order) i 0) (s .gates) ≡ gateOrder c
+  pub order-back : listed (λ i. getD (s .order) i 0) (s .gates) ≡ gateOrder c
   order-back = ap₂ (λ xs k. listed (λ i. getD xs i 0) k) (order-is s h) (gates-are s h) ∙ padded-back (gateOrder c) few-gates
 
   gate-has : (g : ℕ) → isSource (netAt c g) ≡ false → (typeOf (netAt c g) < 8) × (0 < length (pins c g))
@@ -61,19 +61,24 @@ module _ (s : Session) (h : HasCard s) where
       go (constant k) q x = absurd (true≢false x)
       go (gate ty ps) q x = let r = card-fits s h .gates g ty ps q in (r .0, r .1)
 
+  -- a gate's type, and what the arrays have of it
+  pub gate-type : (g : ℕ) → isSource (netAt c g) ≡ false → getD (s .types) g 0 ≡ typeOf (netAt c g)
+  gate-type g e = ap (λ xs. getD xs g 0) (types-are s h) ∙ type-at c (card-fits s h .fits) g (gate-listed c g e)
+
+  pub gate-fits : (g : ℕ) → isSource (netAt c g) ≡ false → Gates (s .types) (s .counts) g
+  gate-fits g e =
+      let fits = card-fits s h .fits in
+      let few = fits .few in
+      let below : g < 256 = omega (arith, gate-listed c g e) in
+      let type = gate-type g e in
+      let size : getD (s .counts) g 0 ≡ length (pins c g) = ap (λ xs. getD xs g 0) (counts-are s h) ∙ count-at c fits g below in
+      let has = gate-has g e in
+      record { net = below; type = omega (arith, type, has .0); pinned = omega (arith, size, has .1) }
+
   pub gates-fit : (s .gates ≤ 256) × ((i : ℕ) → i < s .gates → Gates (s .types) (s .counts) (getD (s .order) i 0))
-  gates-fit = (omega (arith, gates-are s h, few-gates), λ i l. gated (getD (s .order) i 0) (subst (λ xs. getD (s .order) i 0 ∈ xs) order-back (in-listed (λ j. getD (s .order) j 0) (s .gates) i l)))
-    where
-      gated : (g : ℕ) → g ∈ gateOrder c → Gates (s .types) (s .counts) g
-      gated g m =
-          let o = out-order c g m in
-          let fits = card-fits s h .fits in
-          let few = fits .few in
-          let below : g < 256 = omega (arith, o .1) in
-          let type : getD (s .types) g 0 ≡ typeOf (netAt c g) = ap (λ xs. getD xs g 0) (types-are s h) ∙ type-at c fits g (o .1) in
-          let size : getD (s .counts) g 0 ≡ length (pins c g) = ap (λ xs. getD xs g 0) (counts-are s h) ∙ count-at c fits g below in
-          let has = gate-has g (o .0) in
-          record { net = below; type = omega (arith, type, has .0); pinned = omega (arith, size, has .1) }
+  gates-fit =
+      let listed-gate : (i : ℕ) → i < s .gates → getD (s .order) i 0 ∈ gateOrder c = λ i l. subst (λ xs. getD (s .order) i 0 ∈ xs) order-back (in-listed (λ j. getD (s .order) j 0) (s .gates) i l) in
+      (omega (arith, gates-are s h, few-gates), λ i l. gate-fits (getD (s .order) i 0) (out-order c (getD (s .order) i 0) (listed-gate i l) .0))
 
   -- The inputs
 

@@ -25,7 +25,8 @@ use Rattle.session.specs.Good.{Good}
 use Rattle.history.specs.Filled.{filled}
 use Rattle.steps.specs.Variables.{numbered, stepsOf}
 use Rattle.steps.specs.Listing.{stepAt, Holds, Listed, listOf}
-use Rattle.steps.proofs.Lists.{filled-same, filled-at, filled-past}
+use Rattle.steps.proofs.Rooms.{fills-same, fills-at, fills-past}
+use Rattle.steps.proofs.Vectors.{held-net, held-time}
 
 module _ (s : Session) (nets times : List ℕ) where
   abbrev ks : List Step
@@ -62,18 +63,12 @@ module _ (s : Session) (nets times : List ℕ) where
         → (ns ts : List ℕ) → ns ≡ filled (λ e. getD xs e 0) total nets → ts ≡ filled (λ e. getD ys e 0) total times
         → record { answer = Done total; nets = ns; times = ts } ≡ listOf s nets times
     list-full {nets₀} {times₀} {xs} {ys} h ln lt few m l ns ts en et =
-        let e = h .size in
-        ap (λ x. record { answer = Done total; nets = x; times = ts }) (en ∙ part (λ k. k .net) nets₀ xs nets ln (h .nets-are))
-        ∙ ap (λ y. record { answer = Done total; nets = filled (λ e. stepAt ks e .net) total nets; times = y }) (et ∙ part (λ k. k .time) times₀ ys times lt (h .times-are))
-        ∙ ap (λ n. record { answer = Done n; nets = filled (λ e. stepAt ks e .net) n nets; times = filled (λ e. stepAt ks e .time) n times }) e
-        ∙ by-tests true true true loaded (le-leb (length ks) (length nets) (omega arith)) (le-leb (length ks) (length times) (omega arith))
-      where
-        part : (of : Step → ℕ) (old zs room : List ℕ) → length old ≡ 4096 → zs ≡ filled (λ e. of (stepAt ks e)) (length ks) old
-            → filled (λ e. getD zs e 0) total room ≡ filled (λ e. of (stepAt ks e)) total room
-        part of old zs room q z =
-            let e = h .size in
-            filled-same (λ e. getD zs e 0) (λ e. of (stepAt ks e)) total room
-            (λ i b. ap (λ x. getD x i 0) z ∙ filled-at (λ e. of (stepAt ks e)) (length ks) i old (omega arith) (omega arith))
+        let at : (e : ℕ) → e < total → e < length ks = λ e b. omega (arith, h .size) in
+        ap (λ x. record { answer = Done total; nets = x; times = ts }) (en ∙ fills-same 0 (λ e. getD xs e 0) (λ e. stepAt ks e .net) total nets (λ e b. held-net h ln lt few e (at e b)))
+        ∙ ap (λ y. record { answer = Done total; nets = filled (λ e. stepAt ks e .net) total nets; times = y })
+        (et ∙ fills-same 0 (λ e. getD ys e 0) (λ e. stepAt ks e .time) total times (λ e b. held-time h ln lt few e (at e b)))
+        ∙ ap (λ n. record { answer = Done n; nets = filled (λ e. stepAt ks e .net) n nets; times = filled (λ e. stepAt ks e .time) n times }) (h .size)
+        ∙ by-tests true true true loaded (le-leb (length ks) (length nets) (omega (arith, h .size))) (le-leb (length ks) (length times) (omega (arith, h .size)))
 
 -- What a caller may read in an answer
 
@@ -139,12 +134,12 @@ module _ (s : Session) (nets times : List ℕ) where
     pub list-steps : stepsOf (listOf s nets times .nets) (listOf s nets times .times) (length all) ≡ all
     list-steps =
         ap (λ r. stepsOf (r .nets) (r .times) (length all)) (list-0 loaded m l)
-        ∙ listed-ext (numbered (filled (λ e. stepAt all e .net) (length all) nets) (filled (λ e. stepAt all e .time) (length all) times)) (stepAt all) (length all) (λ e b i. record { net = filled-at (λ e. stepAt all e .net) (length all) e nets m b i; time = filled-at (λ e. stepAt all e .time) (length all) e times l b i })
+        ∙ listed-ext (numbered (filled (λ e. stepAt all e .net) (length all) nets) (filled (λ e. stepAt all e .time) (length all) times)) (stepAt all) (length all) (λ e b i. record { net = fills-at 0 (λ e. stepAt all e .net) (length all) e nets m b i; time = fills-at 0 (λ e. stepAt all e .time) (length all) e times l b i })
         ∙ sym (listed-self all _)
 
     pub list-keeps : (e : ℕ) → length all ≤ e → (getD (listOf s nets times .nets) e 0 ≡ getD nets e 0) × (getD (listOf s nets times .times) e 0 ≡ getD times e 0)
     list-keeps e b =
-        (ap (λ r. getD (r .nets) e 0) (list-0 loaded m l) ∙ filled-past _ (length all) e nets b, ap (λ r. getD (r .times) e 0) (list-0 loaded m l) ∙ filled-past _ (length all) e times b)
+        (ap (λ r. getD (r .nets) e 0) (list-0 loaded m l) ∙ fills-past 0 _ (length all) e nets b, ap (λ r. getD (r .times) e 0) (list-0 loaded m l) ∙ fills-past 0 _ (length all) e times b)
 
 pub record Numbered (c : List Net) : Type 0 where
   pub order : GoodOrder c (stepList c)

@@ -6,50 +6,21 @@ use Prim.Native.Nat.{ℕ, zero, suc, _+_, _-_, _≤_, _<_}
 use native.Mathlib.Nat.{add-zero, add-suc}
 use native.Mathlib.Numerals.{add-one}
 use native.Mathlib.Omega.{arith}
-use lib.ListN.{length, getD, set, length-append, List·getD-append, List·getD-eq-default}
+use lib.ListN.{length, getD, set, length-append, List·getD-append}
 use lib.Seq.{getD-append-seam}
-use native.Mathlib.Decide.{decLt}
-use borrow.Author.Tests.{lt-ltb, le-ltb}
 use Rattle.lists.specs.Entries.{each, from}
-use Rattle.lists.specs.Listed.{upto}
 use Rattle.lists.proofs.Joined.{from-more, each-append}
-use Rattle.lists.proofs.Listed.{listed-none, listed-more, listed-at, listed-past, listed-ext, listed-self, upto-none, upto-more}
+use Rattle.lists.proofs.Listed.{listed-none, listed-more}
 use Rattle.word.specs.Word.{bit}
 use Rattle.rule.specs.Steps.{Step}
 use Rattle.history.specs.Filled.{filled}
 use Rattle.steps.specs.Listing.{noStep, stepAt, timeIn, timesIn, stepsIn, gatesIn, Holds}
-
--- Lent room that is filled from its front
-
-pub filled-none : (f : ℕ → ℕ) (room : List ℕ) → room ≡ filled f 0 room
-filled-none f room = listed-self room 0 ∙ upto-none f (λ i. getD room i 0) (length room)
-
-pub filled-same : (f g : ℕ → ℕ) (n : ℕ) (room : List ℕ) → ((e : ℕ) → e < n → f e ≡ g e) → filled f n room ≡ filled g n room
-filled-same f g n room h = listed-ext (upto f (λ i. getD room i 0) n) (upto g (λ i. getD room i 0) n) (length room) (λ i l. at i (decLt i n))
-  where
-    at : (i : ℕ) → Dec (i < n) → upto f (λ i. getD room i 0) n i ≡ upto g (λ i. getD room i 0) n i
-    at i (yes b) = rw (lt-ltb i n b) (h i b)
-    at i (no b) = rw (le-ltb i n (omega arith))
-
-pub filled-more : (f g : ℕ → ℕ) (n : ℕ) (room : List ℕ) (v : ℕ) → n < length room → ((e : ℕ) → e < n → f e ≡ g e) → v ≡ g n → set (filled f n room) n v ≡ filled g (n + 1) room
-filled-more f g n room v l h e = rw (filled-same f g n room h, e) (upto-more g (λ i. getD room i 0) (length room) n l)
-
--- what stands in it at the places filled
-pub filled-at : (f : ℕ → ℕ) (n e : ℕ) (room : List ℕ) → n ≤ length room → e < n → getD (filled f n room) e 0 ≡ f e
-filled-at f n e room l b = listed-at (upto f (λ i. getD room i 0) n) (length room) e 0 (omega arith) ∙ rw (lt-ltb e n b)
-
--- and past them
-pub filled-past : (f : ℕ → ℕ) (n e : ℕ) (room : List ℕ) → n ≤ e → getD (filled f n room) e 0 ≡ getD room e 0
-filled-past f n e room l = go (decLt e (length room))
-  where
-    go : Dec (e < length room) → getD (filled f n room) e 0 ≡ getD room e 0
-    go (yes b) = listed-at (upto f (λ i. getD room i 0) n) (length room) e 0 b ∙ rw (le-ltb e n l)
-    go (no b) = listed-past (upto f (λ i. getD room i 0) n) (length room) e 0 (omega arith) ∙ sym (List·getD-eq-default room 0 (omega arith))
+use Rattle.steps.proofs.Rooms.{fills-none, fills-more}
 
 -- One step more
 
 pub hold-none : (nets times : List ℕ) → Holds [] nets times nets times 0
-hold-none nets times = record { size = refl; nets-are = filled-none _ nets; times-are = filled-none _ times }
+hold-none nets times = record { size = refl; nets-are = fills-none 0 _ nets; times-are = fills-none 0 _ times }
 
 step-early : (ks : List Step) (k : Step) (e : ℕ) → e < length ks → stepAt ks e ≡ stepAt (ks ++ (k ∷ [])) e
 step-early ks k e l = sym (List·getD-append ks (k ∷ []) noStep e l)
@@ -69,7 +40,7 @@ module _ (ks : List Step) (nets₀ times₀ nets times : List ℕ) (n : ℕ) (ho
           → set xs n (part k) ≡ filled (λ i. part (stepAt (ks ++ (k ∷ [])) i)) (n + 1) room
       put part room xs l h =
           ap (λ ys. set ys n (part k)) (h ∙ ap (λ m. filled (λ i. part (stepAt ks i)) m room) (sym (holds .size)))
-          ∙ filled-more (λ i. part (stepAt ks i)) (λ i. part (stepAt (ks ++ (k ∷ [])) i)) n room (part k) l (λ e b. ap part (step-early ks k e (omega (arith, holds .size))))
+          ∙ fills-more 0 (λ i. part (stepAt ks i)) (λ i. part (stepAt (ks ++ (k ∷ [])) i)) n room (part k) l (λ e b. ap part (step-early ks k e (omega (arith, holds .size))))
           (ap part (sym (ap (stepAt (ks ++ (k ∷ []))) (holds .size) ∙ getD-append-seam ks k [] noStep)))
 
   -- the step of net g at time t, where its set has t

@@ -18,28 +18,35 @@ use Rattle.wiring.specs.declared.Verdict.{Verdict}
 use Rattle.wiring.specs.declared.Verdict.the-variants.{Refused as Faulty, Passed}
 use Rattle.card.specs.declared.Session.{Session}
 use Rattle.card.specs.Session.{cardOf, resting}
+use Rattle.card.specs.Held.{HasCard}
 use Rattle.session.specs.declared.Moved.{Moved}
 use Rattle.session.specs.declared.Inputs.{Inputs}
-use Rattle.session.specs.Inputs.{isInputKind, given, vectorFits, valuesRead, inputsRead}
+use Rattle.session.specs.Inputs.{isInputKind, given, vectorFits, inputsRead}
 use Rattle.session.specs.Fields.{startAt}
 use Rattle.session.specs.Moves.{refusedMove, moving, ends}
+use Rattle.session.proofs.Answers.{verdict-is, values-given}
 use Rattle.history.specs.Filled.{filled}
 use Rattle.steps.specs.Variables.{Words, numbered, stepsOf, Ran, ran, historiesFrom}
 use Rattle.steps.specs.Listing.{stepAt, Holds}
 use Rattle.steps.specs.Vector.{startVars, ranAlong, ranSession, ranMove, stepsVectorOf}
-use Rattle.steps.proofs.Lists.{filled-at}
+use Rattle.steps.proofs.Rooms.{fills-at}
 
 -- the steps that two arrays name are those that they hold
-pub held-steps : {ks : List Step} {nets₀ times₀ nets times : List ℕ} {n : ℕ} → Holds ks nets₀ times₀ nets times n → length nets₀ ≡ 4096 → length times₀ ≡ 4096 → n ≤ 4096
-    → stepsOf nets times n ≡ ks
-held-steps {ks} {nets₀} {times₀} {nets} {times} {n} h ln lt few =
-    ap (stepsOf nets times) (h .size) ∙ listed-ext (numbered nets times) (stepAt ks) (length ks) at ∙ sym (listed-self ks _)
-  where
-    part : (of : Step → ℕ) (old xs : List ℕ) → length old ≡ 4096 → xs ≡ filled (λ i. of (stepAt ks i)) (length ks) old → (e : ℕ) → e < length ks → getD xs e 0 ≡ of (stepAt ks e)
-    part of old xs q z e l = ap (λ x. getD x e 0) z ∙ filled-at (λ i. of (stepAt ks i)) (length ks) e old (omega (arith, h .size)) l
+module _ {ks : List Step} {nets₀ times₀ nets times : List ℕ} {n : ℕ} (h : Holds ks nets₀ times₀ nets times n) (ln : length nets₀ ≡ 4096) (lt : length times₀ ≡ 4096) (few : n ≤ 4096) where
+  part : (of : Step → ℕ) (old xs : List ℕ) → length old ≡ 4096 → xs ≡ filled (λ i. of (stepAt ks i)) (length ks) old → (e : ℕ) → e < length ks → getD xs e 0 ≡ of (stepAt ks e)
+  part of old xs q z e l = ap (λ x. getD x e 0) z ∙ fills-at 0 (λ i. of (stepAt ks i)) (length ks) e old (omega (arith, h .size)) l
 
-    at : (e : ℕ) → e < length ks → numbered nets times e ≡ stepAt ks e
-    at e l = λ i. record { net = part (λ k. k .net) nets₀ nets ln (h .nets-are) e l i; time = part (λ k. k .time) times₀ times lt (h .times-are) e l i }
+  pub held-net : (e : ℕ) → e < length ks → getD nets e 0 ≡ stepAt ks e .net
+  held-net = part (λ k. k .net) nets₀ nets ln (h .nets-are)
+
+  pub held-time : (e : ℕ) → e < length ks → getD times e 0 ≡ stepAt ks e .time
+  held-time = part (λ k. k .time) times₀ times lt (h .times-are)
+
+  pub held-steps : stepsOf nets times n ≡ ks
+  held-steps =
+      ap (stepsOf nets times) (h .size)
+      ∙ listed-ext (numbered nets times) (stepAt ks) (length ks) (λ e l i. record { net = held-net e l i; time = held-time e l i })
+      ∙ sym (listed-self ks _)
 
 module _ (s : Session) where
   -- The start
@@ -62,10 +69,6 @@ module _ (s : Session) where
   pub start-is : (values before : List Bool) (vars : List ℕ) → before ≡ listed (ends s) 256 → vars ≡ listed (startAt (s .kinds) values before) 256
       → vars ≡ startVars s (λ n. getD values n false)
   start-is values before vars eb ev = ev ∙ ap (λ x. listed (startAt (s .kinds) values x) 256) eb ∙ start-same values (λ n. getD values n false) (λ n l. refl)
-
-  along-same : (f g : ℕ → Bool) (ks : List Step) → ((n : ℕ) → n < 256 → f n ≡ g n) → ranAlong s f ks ≡ ranAlong s g ks
-  unfolding ranAlong startVars
-  along-same f g ks h = ap (λ xs. ran (s .types) (s .counts) (s .places) (s .sets) (listed (startAt (s .kinds) xs (listed (ends s) 256)) 256) ks) (listed-ext f g 256 h)
 
   -- What a run hands back
 
@@ -95,19 +98,9 @@ module _ (s : Session) where
     vector-unrested e = by-tests false _ e refl
 
     module _ (rested : s .rested ≡ true) (read : Inputs) (e : read ≡ inputsRead (s .kinds) (s .inputs) v) where
-      fits-is : (f : Verdict) → read .verdict ≡ f → vectorFits (s .inputs) v ≡ f
-      unfolding inputsRead
-      fits-is f q = sym (ap (λ x. x .verdict) e) ∙ q
-
       pub vector-faulty : (why : Refusal) → read .verdict ≡ Faulty why → refusedMove s why ≡ stepsVectorOf s v
-      vector-faulty why q = by-tests true (Faulty why) rested (fits-is (Faulty why) q)
+      vector-faulty why q = by-tests true (Faulty why) rested (sym (verdict-is s v read e) ∙ q)
 
-      values-are : read .verdict ≡ Passed → read .values ≡ listed (given (s .kinds) v) 256
-      unfolding inputsRead
-      values-are q = ap (λ x. x .values) e ∙ ap (λ f. valuesRead f (s .kinds) v) (fits-is Passed q)
-
-      pub vector-run : read .verdict ≡ Passed → ranMove s (ranAlong s (λ n. getD (read .values) n false) (stepList (cardOf s))) ≡ stepsVectorOf s v
-      vector-run q =
-          ap (ranMove s)
-          (along-same _ (given (s .kinds) v) (stepList (cardOf s)) (λ n l. ap (λ xs. getD xs n false) (values-are q) ∙ listed-at (given (s .kinds) v) 256 n false l))
-          ∙ by-tests true Passed rested (fits-is Passed q)
+      pub vector-run : HasCard s → read .verdict ≡ Passed → ranMove s (ranAlong s (λ n. getD (read .values) n false) (stepList (cardOf s))) ≡ stepsVectorOf s v
+      vector-run h q =
+          ap (λ f. ranMove s (ranAlong s f (stepList (cardOf s)))) (values-given s v read e h q) ∙ by-tests true Passed rested (sym (verdict-is s v read e) ∙ q)

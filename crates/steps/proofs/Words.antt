@@ -24,13 +24,15 @@ use Rattle.rule.specs.Run.{made, step, run}
 use Rattle.rule.specs.Steps.{Step, sameStep, IsStep, readAt, stepReads, stepFn}
 use Rattle.rule.proofs.Nets.{at-open, at-net, not-open, net-open}
 use Rattle.rule.proofs.Chains.{source-set}
+use Rattle.wiring.specs.Layout.{typeOf}
 use Rattle.card.specs.declared.Session.{Session}
 use Rattle.card.specs.Session.{cardOf}
 use Rattle.card.specs.Held.{HasCard}
 use Rattle.card.proofs.Kept.{card-fits, card-pins, card-sets}
+use Rattle.session.proofs.Held.{gate-type}
 use Rattle.steps.specs.Variables.{varsOf, wordsOf, readIn, readsIn, fnIn, stepIn, Ran, ranFrom}
 use Rattle.steps.proofs.Stores.{var-net}
-use Rattle.steps.proofs.Cards.{type-is, step-low}
+use Rattle.steps.proofs.Cards.{step-low}
 
 -- a variable that the words hold, or an open pin's
 abbrev pub Kept : Step → Type 0
@@ -113,7 +115,7 @@ module _ (s : Session) (h : HasCard s) where
         go : (w : Net) → netAt c (k .net) ≡ w → isSource w ≡ false → fn k vs ≡ stepFn c k vs
         go input e q = absurd (true≢false q)
         go (constant b) e q = absurd (true≢false q)
-        go (gate ty ps) e q = ap (λ x. gateFn x vs) (type-is s h (k .net) ty ps e) ∙ fn-gate c k ty ps vs e
+        go (gate ty ps) e q = ap (λ x. gateFn x vs) (gate-type s h (k .net) (i .gated) ∙ ap typeOf e) ∙ fn-gate c k ty ps vs e
 
     -- what a step reads is kept
     read-kept : (j : Step) → j ∈ stepReads c k → Kept j

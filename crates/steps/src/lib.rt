@@ -227,7 +227,8 @@ pub fn run_order<'a>(
     i
 }
 
-fn narrow(x: u8) -> u32
+// A byte as a time.
+pub fn narrow(x: u8) -> u32
     ensures { λ r. ⌜ r ≡ x ⌝ }
 {
     x as u32

@@ -3,6 +3,7 @@ use mathlib.Core.Path.{_≡_}
 use mathlib.Core.Bool.{true}
 use borrow.Author.Needs.{needs}
 use borrow.Author.Tests.{not-true, not-false}
+use Rattle.card.specs.Held.{HasCard}
 use Rattle.session.proofs.Held.{inputs-ranked}
 use Rattle.bench.proofs.Answers.{bench-unrested, bench-faulty, bench-run}
 use Rattle.bench.proofs.bench.Statement.{statement}
@@ -11,6 +12,10 @@ use Rattle.bench.proofs.bench.Tie as tie
 rested : (c : tie.Else1) → c .before .before .before .before .args .t1 .rested ≡ true
 rested c = not-false _ (c .if1 .left)
 
+-- a rested session holds a card
+card : (c : tie.Else1) → HasCard (c .before .before .before .before .args .t1)
+card c = let g = c .before .before .before .before .pre in g .card (g .rest (rested c) .0)
+
 refused-requires : tie.Need-refused-requires
 refused-requires c κs = search needs
 
@@ -18,7 +23,7 @@ returns : tie.Need-returns
 returns c = let a = c .before .before .before .before .before .args in bench-unrested (a .t1) (a .v .now) (a .order .now) (a .k) (a .room .now) _ (not-true _ (c .before .if1 .taken)) (c .refused .ensures)
 
 read-inputs-requires : tie.Need-read-inputs-requires
-read-inputs-requires c κs = let p = c .before .before .before .before .before .before in inputs-ranked (p .args .t1) (p .pre .card (p .pre .rest (rested (c .before .before)) .0))
+read-inputs-requires c κs = inputs-ranked (c .before .before .before .before .before .before .args .t1) (card (c .before .before))
 
 enum-known-verdict : tie.Need-enum-known-verdict
 enum-known-verdict c = search needs
@@ -43,7 +48,7 @@ same-length c = search needs
 returns-3 : tie.Need-returns-3
 returns-3 c =
     let a = c .before .before .before .before .before .before .before .before .before .before .before .before .before .before .before .args in
-    bench-run (a .t1) (a .v .now) (a .order .now) (a .k) (a .room .now) (rested (c .before .before .before .before .before .before .before .before .before .before .before)) (c .before .before .before .before .before .before .before .before .read-inputs .result) (c .before .before .before .before .before .before .before .before .read-inputs .ensures) _ (c .before .before .before .before .before .before .enum-told .given .1) (c .before .before .run-bench .ensures)
+    bench-run (a .t1) (a .v .now) (a .order .now) (a .k) (a .room .now) (rested (c .before .before .before .before .before .before .before .before .before .before .before)) (c .before .before .before .before .before .before .before .before .read-inputs .result) (c .before .before .before .before .before .before .before .before .read-inputs .ensures) (card (c .before .before .before .before .before .before .before .before .before .before .before)) _ (c .before .before .before .before .before .before .enum-told .given .1) (c .before .before .run-bench .ensures)
 
 pub bench-spec : {M : Type 1} → statement M
 bench-spec =

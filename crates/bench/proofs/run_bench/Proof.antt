@@ -1,17 +1,16 @@
 -- `bench::run_bench` meets its contract: the list is the card's, the order is judged from it, then 19 and 18, else the entries are done.
 -- Assumes nothing.
-use mathlib.Core.Path.{_≡_, ap}
+use mathlib.Core.Path.{_≡_}
 use mathlib.Core.Bool.{false}
-use native.Mathlib.Omega.{arith}
 use lib.ListN.{length, getD}
 use borrow.Author.Needs.{needs}
 use Rattle.rule.specs.Steps.{stepList}
 use Rattle.card.specs.Session.{cardOf}
 use Rattle.card.specs.Held.{HasCard}
-use Rattle.card.proofs.Kept.{card-wires, card-fitting, card-steps}
-use Rattle.steps.proofs.Cards.{gates-few, order-low, steps-are}
+use Rattle.card.proofs.Kept.{card-wires, card-fitting}
+use Rattle.steps.proofs.Cards.{list-asked, list-total, list-few}
 use Rattle.bench.specs.Orders.{orderJudged}
-use Rattle.bench.proofs.Answers.{list-total, list-few, list-entry, verdict-is, passed-taken, order-faulty, order-many, order-short, order-done}
+use Rattle.bench.proofs.Answers.{list-entry, verdict-is, passed-taken, order-faulty, order-many, order-short, order-done}
 use Rattle.bench.proofs.run_bench.Statement.{statement}
 use Rattle.bench.proofs.run_bench.Tie as tie
 
@@ -20,7 +19,7 @@ card c = c .pre .0 .card (c .pre .0 .rest (c .pre .1) .0)
 
 -- the list that is put is the card's
 total-is : (c : tie.After-put-list) → c .put-list .result ≡ length (stepList (cardOf (c .before .before .before .before .before .before .before .before .args .t1)))
-total-is c = list-total (c .before .before .before .before .before .before .before .before .args .t1) (card (c .before .before .before .before .before .before .before .before)) (c .put-list .ensures) (search needs) (search needs)
+total-is c = list-total (c .before .before .before .before .before .before .before .before .args .t1) (card (c .before .before .before .before .before .before .before .before)) (c .put-list .ensures)
 
 judged : (c : tie.After-judge-order) → c .judge-order .result ≡ orderJudged (cardOf (c .before .before .before .before .before .before .before .before .before .before .before .before .before .before .before .args .t1)) (c .before .before .before .before .before .before .before .before .before .before .before .before .before .before .before .args .order .now)
 judged c = verdict-is (c .before .before .before .before .before .before .before .before .before .before .before .before .before .before .before .args .t1) (card (c .before .before .before .before .before .before .before .before .before .before .before .before .before .before .before)) (c .before .before .before .before .before .before .before .put-list .ensures) (search needs) (search needs) (c .before .before .before .before .before .before .before .before .before .before .before .before .before .before .before .args .order .now) _ (c .judge-order .ensures)
@@ -29,14 +28,14 @@ put-list-requires : tie.Need-put-list-requires
 put-list-requires c κs =
     let s = c .before .before .before .before .before .before .before .args .t1 in
     let h = card (c .before .before .before .before .before .before .before) in
-    ((gates-few s h, order-low s h, omega (arith, card-steps s h, ap length (steps-are s h))), search needs)
+    (list-asked s h, search needs)
 
 judge-order-requires : tie.Need-judge-order-requires
 judge-order-requires c κs =
     let s = c .before .before .before .before .before .before .before .before .before .before .before .before .before .before .args .t1 in
     let h = card (c .before .before .before .before .before .before .before .before .before .before .before .before .before .before) in
     let put = c .before .before .before .before .before .before .put-list .ensures in
-    (card-wires s h, (card-fitting s h, (list-few s h put (search needs) (search needs), list-entry s h put (search needs) (search needs))))
+    (card-wires s h, (card-fitting s h, (list-few s h put, list-entry s h put (search needs) (search needs))))
 
 enum-known-verdict : tie.Need-enum-known-verdict
 enum-known-verdict c = search needs

@@ -1,24 +1,20 @@
 -- `steps::copy_nets` meets its contract. The loop's invariant: the first i places are filled. The measure is what is left of n. Assumes nothing.
-use mathlib.Core.Path.{_≡_, refl, ap, _∙_}
-use Prim.Native.Nat.{ℕ, _-_, _≤_}
+use Prim.Native.Nat.{_-_}
 use native.Mathlib.Omega.{arith}
-use lib.ListN.{length, getD, set}
-use Rattle.lists.proofs.Listed.{length-listed}
-use Rattle.history.specs.Filled.{filled}
-use Rattle.steps.proofs.Lists.{filled-none, filled-more}
+use Rattle.steps.proofs.Rooms.{Copied, copied-none, copied-length, copied-more, copied-all}
 use borrow.Author.Needs.{needs}
 use Rattle.steps.proofs.copy_nets.Statement.{statement}
 use Rattle.steps.proofs.copy_nets.Tie as tie
 
 abbrev Inv-loop : tie.InvT-loop
 Inv-loop from n room₀ i₀ room i =
-    (i ≤ n) × (room ≡ filled (λ (e : ℕ). getD from e 0) i room₀)
+    Copied 0 from n room₀ room i
 
 abbrev μ-loop : tie.MeasureT-loop
 μ-loop from n room₀ i₀ room i = n - i
 
 loop-holds : tie.Need-loop-holds Inv-loop μ-loop
-loop-holds c = (omega arith, filled-none _ (c .args .room .now))
+loop-holds c = let a = c .args in copied-none 0 (a .from .now) (a .n) (a .room .now)
 
 mul-room : tie.Need-mul-room Inv-loop μ-loop
 mul-room c = search needs
@@ -30,7 +26,7 @@ mul-room-2 : tie.Need-mul-room-2 Inv-loop μ-loop
 mul-room-2 c = search needs
 
 slice-write-room : tie.Need-slice-write-room Inv-loop μ-loop
-slice-write-room c = let a = c .before .before .before .args in let e = ap length (c .before .before .loop .inv .1) ∙ length-listed _ (length (a .room .now)) in omega (arith, e)
+slice-write-room c = let a = c .before .before .before .args in let l = c .before .before .loop in omega (arith, copied-length 0 (a .from .now) (a .n) (a .room .now) (l .room) (l .i) (l .inv))
 
 add-i : tie.Need-add-i Inv-loop μ-loop
 add-i c = search needs
@@ -42,16 +38,13 @@ loop-again : tie.Need-loop-again Inv-loop μ-loop
 loop-again c =
     let a = c .before .before .before .args in
     let l = c .before .before .loop in
-    let f : ℕ → ℕ = λ e. getD (a .from .now) e 0 in
-    (omega arith, ap (λ xs. set xs (l .i) (f (l .i))) (l .inv .1) ∙ filled-more f f (l .i) (a .room .now) (f (l .i)) (omega arith) (λ e b. refl) refl)
+    copied-more 0 (a .from .now) (a .n) (a .room .now) (l .room) (l .i) (l .inv) (omega arith) (omega arith)
 
 same-length : tie.Need-same-length Inv-loop μ-loop
-same-length c = ap length (c .before .loop .inv .1) ∙ length-listed _ _
+same-length c = let a = c .before .before .args in let l = c .before .loop in copied-length 0 (a .from .now) (a .n) (a .room .now) (l .room) (l .i) (l .inv)
 
 returns : tie.Need-returns Inv-loop μ-loop
-returns c =
-    let e : c .before .loop .i ≡ c .before .before .args .n = omega arith in
-    rw e at (c .before .loop .inv .1)
+returns c = let a = c .before .before .args in let l = c .before .loop in copied-all 0 (a .from .now) (a .n) (a .room .now) (l .room) (l .i) (l .inv) (omega arith)
 
 pub copy-nets-spec : {M : Type 1} → statement M
 copy-nets-spec =

@@ -1,16 +1,13 @@
 -- `steps::list` meets its contract. Assumes nothing.
-use mathlib.Core.Path.{_≡_, ap, _∙_}
+use mathlib.Core.Path.{_≡_}
 use mathlib.Core.Bool.{true}
 use Prim.Native.Nat.{_≤_}
-use native.Mathlib.Omega.{arith}
 use lib.ListN.{length}
 use borrow.Author.Tests.{not-true, not-false}
 use Rattle.rule.specs.Steps.{stepList}
 use Rattle.card.specs.Session.{cardOf}
 use Rattle.card.specs.Held.{HasCard}
-use Rattle.card.proofs.Kept.{card-steps}
-use Rattle.steps.proofs.Lists.{hold-same}
-use Rattle.steps.proofs.Cards.{gates-few, order-low, steps-are}
+use Rattle.steps.proofs.Cards.{list-asked, list-held, list-total, list-few}
 use Rattle.steps.proofs.Answers.{list-none, list-short-nets, list-short-times, list-full}
 use borrow.Author.Needs.{needs}
 use Rattle.steps.proofs.list.Statement.{statement}
@@ -24,10 +21,10 @@ card c = c .before .before .before .pre .card (loaded c)
 
 -- the list that is put has as many entries as the card has steps
 size : (c : tie.After-put-list) → c .put-list .result ≡ length (stepList (cardOf (c .before .before .before .before .before .before .before .before .before .args .t1)))
-size c = let s = c .before .before .before .before .before .before .before .before .before .args .t1 in c .put-list .ensures .size ∙ ap length (steps-are s (card (c .before .before .before .before .before .before)))
+size c = let s = c .before .before .before .before .before .before .before .before .before .args .t1 in list-total s (card (c .before .before .before .before .before .before)) (c .put-list .ensures)
 
 few : (c : tie.After-put-list) → c .put-list .result ≤ 4096
-few c = omega (arith, size c, card-steps (c .before .before .before .before .before .before .before .before .before .args .t1) (card (c .before .before .before .before .before .before)))
+few c = list-few (c .before .before .before .before .before .before .before .before .before .args .t1) (card (c .before .before .before .before .before .before)) (c .put-list .ensures)
 
 returns : tie.Need-returns
 returns c = let a = c .before .before .before .args in list-none (a .t1) (a .nets .now) (a .times .now) (not-true _ (c .if1 .taken))
@@ -36,7 +33,7 @@ put-list-requires : tie.Need-put-list-requires
 put-list-requires c κs =
     let s = c .before .before .before .before .before .before .before .before .args .t1 in
     let h = card (c .before .before .before .before .before) in
-    ((gates-few s h, order-low s h, omega (arith, card-steps s h, ap length (steps-are s h))), search needs)
+    (list-asked s h, search needs)
 
 returns-2 : tie.Need-returns-2
 returns-2 c = let a = c .before .before .before .before .before .before .before .before .before .before .args in list-short-nets (a .t1) (a .nets .now) (a .times .now) (loaded (c .before .before .before .before .before .before .before)) (c .before .put-list .result) (size (c .before)) (c .if2 .taken)
@@ -60,7 +57,7 @@ returns-4 : tie.Need-returns-4
 returns-4 c =
     let a = c .before .before .before .before .before .before .before .before .before .before .before .before .before .before .before .before .before .before .before .before .before .args in
     let put = c .before .before .before .before .before .before .before .before .before .before .before .before .put-list in
-    list-full (a .t1) (a .nets .now) (a .times .now) (loaded (c .before .before .before .before .before .before .before .before .before .before .before .before .before .before .before .before .before .before)) (put .result) (hold-same (steps-are (a .t1) (card (c .before .before .before .before .before .before .before .before .before .before .before .before .before .before .before .before .before .before))) (put .ensures)) (search needs) (search needs) (few (c .before .before .before .before .before .before .before .before .before .before .before .before))
+    list-full (a .t1) (a .nets .now) (a .times .now) (loaded (c .before .before .before .before .before .before .before .before .before .before .before .before .before .before .before .before .before .before)) (put .result) (list-held (a .t1) (card (c .before .before .before .before .before .before .before .before .before .before .before .before .before .before .before .before .before .before)) (put .ensures)) (search needs) (search needs) (few (c .before .before .before .before .before .before .before .before .before .before .before .before))
     (c .before .before .before .before .before .before .before .before .before .before .before .if2 .left) (c .before .before .before .before .before .before .before .before .before .before .if3 .left) _ _ (c .before .before .before .before .before .before .before .copy-nets .ensures) (c .before .before .copy-times .ensures)
 
 pub list-spec : {M : Type 1} → statement M

@@ -1,20 +1,18 @@
 -- `steps::run_steps` meets its contract. Assumes nothing.
-use mathlib.Core.Path.{_≡_, sym, ap, subst}
+use mathlib.Core.Path.{_≡_, sym, subst}
 use mathlib.Core.Bool.{false}
 use Prim.Native.Nat.{_≤_}
-use native.Mathlib.Omega.{arith}
-use lib.ListN.{length, getD}
+use lib.ListN.{getD}
 use Rattle.lists.specs.Listed.{listed}
 use Rattle.rule.specs.Steps.{stepList}
 use Rattle.rule.proofs.StepLists.{list-only}
 use Rattle.card.specs.Session.{cardOf}
 use Rattle.card.specs.Held.{HasCard}
-use Rattle.card.proofs.Kept.{card-wires, card-fitting, card-steps}
+use Rattle.card.proofs.Kept.{card-wires, card-fitting}
 use Rattle.session.specs.Moves.{ends}
 use Rattle.steps.specs.Variables.{Words, Doable, stepsOf}
 use Rattle.steps.specs.Vector.{startVars}
-use Rattle.steps.proofs.Lists.{hold-same}
-use Rattle.steps.proofs.Cards.{gates-few, order-low, steps-are, steps-doable}
+use Rattle.steps.proofs.Cards.{list-asked, list-held, list-few, steps-doable}
 use Rattle.steps.proofs.Vectors.{held-steps, start-words, start-is, run-made}
 use borrow.Author.Needs.{needs}
 use Rattle.steps.proofs.run_steps.Statement.{statement}
@@ -33,10 +31,10 @@ started c = start-is (c .before .before .before .before .before .before .before 
 
 -- the list that is put is the card's
 few : (c : tie.After-put-list) → c .put-list .result ≤ 4096
-few c = let h = card (c .before .before .before .before .before .before .before .before .before .before .before .before .before) in omega (arith, c .put-list .ensures .size, ap length (steps-are (c .before .before .before .before .before .before .before .before .before .before .before .before .before .args .t1) h), card-steps (c .before .before .before .before .before .before .before .before .before .before .before .before .before .args .t1) h)
+few c = list-few (c .before .before .before .before .before .before .before .before .before .before .before .before .before .args .t1) (card (c .before .before .before .before .before .before .before .before .before .before .before .before .before)) (c .put-list .ensures)
 
 named : (c : tie.After-put-list) → stepsOf (c .put-list .last .0) (c .put-list .last .1 .0) (c .put-list .result) ≡ stepList (cardOf (c .before .before .before .before .before .before .before .before .before .before .before .before .before .args .t1))
-named c = held-steps (hold-same (steps-are (c .before .before .before .before .before .before .before .before .before .before .before .before .before .args .t1) (card (c .before .before .before .before .before .before .before .before .before .before .before .before .before))) (c .put-list .ensures)) (search needs) (search needs) (few c)
+named c = held-steps (list-held (c .before .before .before .before .before .before .before .before .before .before .before .before .before .args .t1) (card (c .before .before .before .before .before .before .before .before .before .before .before .before .before)) (c .put-list .ensures)) (search needs) (search needs) (few c)
 
 tops-requires : tie.Need-tops-requires
 tops-requires c κs = search needs
@@ -48,7 +46,7 @@ put-list-requires : tie.Need-put-list-requires
 put-list-requires c κs =
     let s = c .before .before .before .before .before .before .before .before .before .before .before .before .args .t1 in
     let h = card (c .before .before .before .before .before .before .before .before .before .before .before .before) in
-    ((gates-few s h, order-low s h, omega (arith, card-steps s h, ap length (steps-are s h))), search needs)
+    (list-asked s h, search needs)
 
 run-list-requires : tie.Need-run-list-requires
 run-list-requires c κs =

@@ -2,6 +2,7 @@
 use mathlib.Core.Path.{_≡_, _∙_}
 use mathlib.Core.Bool.{true}
 use borrow.Author.Tests.{not-true, not-false}
+use Rattle.card.specs.Held.{HasCard}
 use Rattle.session.proofs.Held.{inputs-ranked}
 use Rattle.steps.proofs.Vectors.{vector-unrested, vector-faulty, vector-run}
 use borrow.Author.Needs.{needs}
@@ -11,6 +12,10 @@ use Rattle.steps.proofs.vector_steps.Tie as tie
 rested : (c : tie.Else1) → c .before .before .args .t1 .rested ≡ true
 rested c = not-false _ (c .if1 .left)
 
+-- a rested session holds a card
+card : (c : tie.Else1) → HasCard (c .before .before .args .t1)
+card c = let g = c .before .before .pre in g .card (g .rest (rested c) .0)
+
 refused-requires : tie.Need-refused-requires
 refused-requires c κs = search needs
 
@@ -18,7 +23,7 @@ returns : tie.Need-returns
 returns c = let a = c .before .before .before .args in c .refused .ensures ∙ vector-unrested (a .t1) (a .v .now) (not-true _ (c .before .if1 .taken))
 
 read-inputs-requires : tie.Need-read-inputs-requires
-read-inputs-requires c κs = let p = c .before .before .before .before in inputs-ranked (p .args .t1) (p .pre .card (p .pre .rest (rested (c .before .before)) .0))
+read-inputs-requires c κs = inputs-ranked (c .before .before .before .before .args .t1) (card (c .before .before))
 
 enum-known-verdict : tie.Need-enum-known-verdict
 enum-known-verdict c = search needs
@@ -40,7 +45,7 @@ returns-2 c =
 returns-3 : tie.Need-returns-3
 returns-3 c =
     let a = c .before .before .before .before .before .before .before .before .before .before .args in
-    c .run-steps .ensures ∙ vector-run (a .t1) (a .v .now) (rested (c .before .before .before .before .before .before .before .before)) (c .before .before .before .before .before .read-inputs .result) (c .before .before .before .before .before .read-inputs .ensures) (c .before .before .before .enum-told .given .1)
+    c .run-steps .ensures ∙ vector-run (a .t1) (a .v .now) (rested (c .before .before .before .before .before .before .before .before)) (c .before .before .before .before .before .read-inputs .result) (c .before .before .before .before .before .read-inputs .ensures) (card (c .before .before .before .before .before .before .before .before)) (c .before .before .before .enum-told .given .1)
 
 pub vector-steps-spec : {M : Type 1} → statement M
 vector-steps-spec =

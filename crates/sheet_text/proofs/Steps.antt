@@ -1,0 +1,109 @@
+-- One step: what a piece hands back, by what the operation that it calls answers; and the card that a session keeps. Assumes nothing.
+use mathlib.Core.Path.{_≡_, refl, sym, ap, ap₂, _∙_, subst}
+use mathlib.Core.Bool.{true}
+use mathlib.Core.List.{List, [], _∷_}
+use Prim.Native.Nat.{ℕ, zero, suc, _≤_, _<_}
+use native.Mathlib.Omega.{arith}
+use lib.Dec.{lit<}
+use lib.ListN.{length, take}
+use borrow.Author.Tests.{lt-ltb, le-ltb}
+use Rattle.rule.specs.declared.Refusal.{Refusal}
+use Rattle.rule.specs.declared.Refusal.the-variants.{NoRoom}
+use Rattle.rule.specs.declared.Answer.{Answer}
+use Rattle.rule.specs.declared.Answer.the-variants.{Done, Refused}
+use Rattle.records.specs.Written.{Bytes}
+use Rattle.card.specs.declared.Session.{Session}
+use Rattle.card.specs.declared.Loaded.{Loaded}
+use Rattle.card.specs.Session.{none, cardOf}
+use Rattle.card.specs.Load.{loadOf}
+use Rattle.card.specs.Held.{HasCard}
+use Rattle.card.proofs.Kept.{session-holds}
+use Rattle.card.proofs.Verdicts.{Ruling as LoadRuling, refuses as load-refuses, takes as load-takes, ruled as load-ruled}
+use Rattle.session.specs.declared.Moved.{Moved}
+use Rattle.session.specs.Inputs.{given}
+use Rattle.session.specs.Moves.{movedBy, vectorOf, restedBy, restOf}
+use Rattle.session.proofs.Refusals.{Ruling, refuses, takes, rest-ruled, vector-ruled}
+use Rattle.text.specs.Text.{Put}
+use Rattle.sheet_text.specs.declared.Sheet.{Sheet}
+use Rattle.sheet_text.specs.declared.Stage.{Stage}
+use Rattle.sheet_text.specs.Walk.{cardEnd}
+use Rattle.sheet_text.specs.Pieces.{Portion, Written, refusal, pieceUnless, loadedPiece, cardPiece, pieceAt, pieceOf, written}
+
+-- a text put at the front of the page, and the sheet after it
+pub hand-back : (p : Portion) {sheet : Sheet} {old new : List ℕ} {n : ℕ} → sheet ≡ p .after → Put (p .text) old 0 new n
+    → _≡_ {A = Written} (record { piece = record { sheet = sheet; length = n }; page = new }) (written p old)
+unfolding written
+hand-back p {n = n} e q =
+    let l : n ≡ length (p .text) = omega (arith, q .end-is) in
+    λ i. record { piece = record { sheet = e i; length = l i }; page = q .page-is i }
+
+-- a piece that is another's
+pub hand-on : {x : Written} (old : List ℕ) {p q : Portion} → p ≡ q → x ≡ written p old → x ≡ written q old
+hand-on old e w = w ∙ ap (λ r. written r old) e
+
+pub piece-at : (sheet : Sheet) (file : List ℕ) (x : Stage) → sheet .stage ≡ x → pieceAt x sheet file ≡ pieceOf sheet file
+unfolding pieceOf
+piece-at sheet file x e = ap (λ y. pieceAt y sheet file) (sym e)
+
+-- An answer decides between a refusal and a portion
+
+pub refused-so : (a : Answer) (sheet : Sheet) (p : Portion) (why : Refusal) → a ≡ Refused why → refusal sheet why ≡ pieceUnless a sheet p
+refused-so a sheet p why e = ap (λ x. pieceUnless x sheet p) (sym e)
+
+pub done-so : (a : Answer) (sheet : Sheet) (p : Portion) (k : ℕ) → a ≡ Done k → p ≡ pieceUnless a sheet p
+done-so a sheet p k e = ap (λ x. pieceUnless x sheet p) (sym e)
+
+-- The card
+
+pub card-long : (sheet : Sheet) (file : List ℕ) → 65536 < length file → refusal sheet NoRoom ≡ cardPiece sheet file
+unfolding cardPiece
+card-long sheet file l = rw (lt-ltb 65536 (length file) l)
+
+pub card-loads : (sheet : Sheet) (file : List ℕ) (empty : Session) (end : ℕ) (l : Loaded) → length file ≤ 65536 → empty ≡ none → end ≡ cardEnd file
+    → l ≡ loadOf empty (take end file)
+    → loadedPiece sheet end l ≡ cardPiece sheet file
+unfolding cardPiece
+card-loads sheet file empty end l short en ee el =
+    ap₂ (loadedPiece sheet) ee (el ∙ ap₂ (λ s n. loadOf s (take n file)) en ee) ∙ rw (le-ltb 65536 (length file) short)
+
+pub bytes-front : (n : ℕ) (s : List ℕ) → Bytes s → Bytes (take n s)
+bytes-front zero s b i = lit< tt
+bytes-front (suc n) [] b i = b i
+bytes-front (suc n) (x ∷ s) b zero = b zero
+bytes-front (suc n) (x ∷ s) b (suc i) = bytes-front n s (λ j. b (suc j)) i
+
+-- a card that load takes is held
+pub load-holds : (old : Session) (s : List ℕ) → Bytes s → (l : Loaded) → l ≡ loadOf old s → (k : ℕ) → l .answer ≡ Done k → HasCard (l .session)
+load-holds old s bytes l e k d =
+    subst (λ x. HasCard (x .session)) (sym e) (go (loadOf old s) (load-ruled old s bytes) (ap (λ x. x .answer) (sym e) ∙ d))
+  where
+    go : (x : Loaded) → LoadRuling old s x → x .answer ≡ Done k → HasCard (x .session)
+    go x (load-refuses r w) q = let z : _≡_ {A = ℕ} 0 1 = cc in absurd (omega arith)
+    go x (load-takes a) q = session-holds (a .card) (a .accepted)
+
+-- Rest and a vector keep the card; a vector that is done leaves the session rested
+
+module _ (s : Session) (v : List ℕ) where
+  pub rest-card : cardOf (restOf s v .session) ≡ cardOf s
+  unfolding cardOf restedBy
+  rest-card = go (restOf s v) (rest-ruled s v)
+    where
+      go : (x : Moved) → Ruling (s .loaded) s v (restedBy s (given (s .kinds) v)) x → cardOf (x .session) ≡ cardOf s
+      go x (refuses r w) = refl
+      go x (takes l w) = refl
+
+  pub vector-card : cardOf (vectorOf s v .session) ≡ cardOf s
+  unfolding cardOf movedBy
+  vector-card = go (vectorOf s v) (vector-ruled s v)
+    where
+      go : (x : Moved) → Ruling (s .rested) s v (movedBy s (given (s .kinds) v)) x → cardOf (x .session) ≡ cardOf s
+      go x (refuses r w) = refl
+      go x (takes l w) = refl
+
+  pub vector-rests : (k : ℕ) → vectorOf s v .answer ≡ Done k → vectorOf s v .session .rested ≡ true
+  unfolding movedBy
+  vector-rests k d = go (vectorOf s v) (vector-ruled s v) d
+    where
+      go : (x : Moved) → Ruling (s .rested) s v (movedBy s (given (s .kinds) v)) x → x .answer ≡ Done k → x .session .rested ≡ true
+      go x (refuses r w) q = let z : _≡_ {A = ℕ} 0 1 = cc in absurd (omega arith)
+      go x (takes l w) q = l

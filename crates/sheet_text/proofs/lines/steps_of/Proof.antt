@@ -1,0 +1,15 @@
+-- `lines::steps_of` meets its contract: the sizes of the gates' sets, added, are the number of steps. Assumes nothing.
+use mathlib.Core.Path.{_∙_}
+use Rattle.steps.proofs.Cards.{list-asked}
+use Rattle.sheet_text.proofs.Cards.{steps-is}
+use Rattle.sheet_text.proofs.lines.steps_of.Statement.{statement}
+use Rattle.sheet_text.proofs.lines.steps_of.Tie as tie
+
+steps-of-requires : tie.Need-steps-of-requires
+steps-of-requires c κs = let s = c .before .before .before in let q = list-asked (s .args .t1) (s .pre) in (q .0, q .1)
+
+returns : tie.Need-returns
+returns c = let s = c .before .before .before .before in c .steps-of .ensures ∙ steps-is (s .args .t1) (s .pre)
+
+pub steps-of-spec : {M : Type 1} → statement M
+steps-of-spec = tie.close (tie.spec steps-of-requires returns)

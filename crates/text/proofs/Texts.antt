@@ -1,0 +1,81 @@
+-- Texts put one after another are one text put; a number's digits and how many they are. Assumes nothing.
+use mathlib.Core.Path.{_≡_, refl, sym, ap, _∙_, subst}
+use mathlib.Core.Bool.{cond}
+use mathlib.Core.List.{List, [], _∷_, _++_}
+use Prim.Native.Nat.{ℕ, zero, suc, _+_, _/_, _%_, _^_, _≤_, _<_}
+use native.Mathlib.Omega.{arith}
+use native.Mathlib.Decide.{decLt}
+use native.Mathlib.Nat.{pow-suc}
+use native.Mathlib.Numerals.{add-one}
+use lib.Dec.{ltb}
+use lib.ListN.{length, getD, take, set, length-append}
+use lib.Seq.{sets, sets-eq, take-suc, take-at}
+use borrow.Author.Tests.{lt-ltb, le-ltb}
+use Rattle.text.specs.Text.{digit, digitsIn, decimal, Put}
+
+-- two texts, the second where the first ends
+pub sets-append : (s t l : List ℕ) (i : ℕ) → sets l i (s ++ t) ≡ sets (sets l i s) (i + length s) t
+sets-append [] t l i = ap (λ k. sets l k t) (omega arith)
+sets-append (a ∷ s) t l i = sets-append s t (set l i a) (suc i) ∙ ap (λ k. sets (sets (set l i a) (suc i) s) k t) (omega arith)
+
+pub put-then : {s t a b c : List ℕ} {i j k : ℕ} → Put s a i b j → Put t b j c k → Put (s ++ t) a i c k
+put-then {s} {t} {a} {b} {c} {i} {j} {k} p q =
+    record {
+      page-is = q .page-is ∙ ap (λ l. sets l j t) (p .page-is) ∙ ap (λ m. sets (sets a i s) m t) (p .end-is) ∙ sym (sets-append s t a i);
+      end-is = omega (arith, p .end-is, q .end-is, length-append s t);
+    }
+
+-- nothing is put
+pub put-none : (a : List ℕ) (i : ℕ) → Put [] a i a i
+put-none a i = record { page-is = refl; end-is = omega arith }
+
+pub put-same : {s t a b : List ℕ} {i j : ℕ} → s ≡ t → Put s a i b j → Put t a i b j
+put-same {a = a} {b = b} {i = i} {j = j} e p = subst (λ s. Put s a i b j) e p
+
+-- one byte more of a word
+pub put-more : (word : List ℕ) (k : ℕ) {a b c : List ℕ} {i j e : ℕ} → k < length word → Put (take k word) a i b j → Put (getD word k 0 ∷ []) b j c e
+    → Put (take (k + 1) word) a i c e
+put-more word k l p q = put-same (sym (take-suc word k 0 l) ∙ ap (λ n. take n word) (sym (add-one k))) (put-then p q)
+
+-- a text at the front of a page is read there
+pub put-front : {s a b : List ℕ} {j : ℕ} → length s ≤ length a → Put s a 0 b j → take j b ≡ s
+put-front {s} {a} {b} {j} l p = ap (take j) (p .page-is ∙ sets-eq s a 0 (omega arith)) ∙ take-at s _ j (omega (arith, p .end-is))
+
+-- A number's digits
+
+-- with room for all of them, more room changes nothing
+fuel : (k j n : ℕ) → n < k → n < j → digitsIn k n ≡ digitsIn j n
+unfolding digitsIn
+fuel zero j n p q = absurd (omega arith)
+fuel (suc k) zero n p q = absurd (omega arith)
+fuel (suc k) (suc j) n p q = go (decLt n 10) (λ l. fuel k j (n / 10) (omega arith) (omega arith))
+  where
+    by-digits : List ℕ → List ℕ
+    by-digits high = cond (ltb n 10) (digit n ∷ []) (high ++ (digit (n % 10) ∷ []))
+
+    go : Dec (n < 10) → (10 ≤ n → digitsIn k (n / 10) ≡ digitsIn j (n / 10)) → by-digits (digitsIn k (n / 10)) ≡ by-digits (digitsIn j (n / 10))
+    go (yes l) f = rw (lt-ltb n 10 l)
+    go (no l) f = rw (le-ltb n 10 (omega arith)) (ap (λ xs. xs ++ (digit (n % 10) ∷ [])) (f (omega arith)))
+
+pub decimal-low : (n : ℕ) → n < 10 → decimal n ≡ digit n ∷ []
+unfolding decimal digitsIn
+decimal-low n l = rw (lt-ltb n 10 l)
+
+pub decimal-high : (n : ℕ) → 10 ≤ n → decimal n ≡ decimal (n / 10) ++ (digit (n % 10) ∷ [])
+unfolding decimal digitsIn
+decimal-high n l =
+    subst (λ b. cond b (digit n ∷ []) (digitsIn n (n / 10) ++ (digit (n % 10) ∷ [])) ≡ decimal (n / 10) ++ (digit (n % 10) ∷ []))
+    (sym (le-ltb n 10 l)) (ap (λ xs. xs ++ (digit (n % 10) ∷ [])) (fuel n (suc (n / 10)) (n / 10) (omega arith) (omega arith)))
+
+-- one digit more than the number without its last
+pub length-more : (n : ℕ) → 10 ≤ n → length (decimal n) ≡ length (decimal (n / 10)) + 1
+length-more n l = ap length (decimal-high n l) ∙ length-append (decimal (n / 10)) (digit (n % 10) ∷ [])
+
+-- a number below 10 ^ (k + 1) has at most k + 1 digits
+pub decimal-short : (k n : ℕ) → n < 10 ^ suc k → length (decimal n) ≤ suc k
+decimal-short zero n l = rw (decimal-low n (omega arith)) (omega arith)
+decimal-short (suc k) n l = go (decLt n 10) (decimal-short k (n / 10) (omega (arith, pow-suc 10 (suc k))))
+  where
+    go : Dec (n < 10) → length (decimal (n / 10)) ≤ suc k → length (decimal n) ≤ suc (suc k)
+    go (yes p) h = rw (decimal-low n p) (omega arith)
+    go (no p) h = omega (arith, length-more n (omega arith))

@@ -1,0 +1,34 @@
+-- Text as bytes: numbers in decimal, and a text put at a place of a page. Assumes nothing.
+use mathlib.Core.Path.{_≡_}
+use mathlib.Core.Bool.{cond}
+use mathlib.Core.List.{List, [], _∷_, _++_}
+use Prim.Native.Nat.{ℕ, zero, suc, _+_, _/_, _%_}
+use lib.Dec.{ltb}
+use lib.ListN.{length}
+use lib.Seq.{sets}
+
+-- the byte of a digit
+abbrev pub digit : ℕ → ℕ
+digit d = 48 + d
+
+-- the decimal digits of n, the highest first, at most k of them
+unfoldable pub digitsIn : ℕ → ℕ → List ℕ
+digitsIn zero n = []
+digitsIn (suc k) n = cond (ltb n 10) (digit n ∷ []) (digitsIn k (n / 10) ++ (digit (n % 10) ∷ []))
+
+-- a number in decimal; it has no more digits than one more than itself
+unfoldable pub decimal : ℕ → List ℕ
+decimal n = digitsIn (suc n) n
+
+-- a number and the byte after it
+abbrev pub numbered : ℕ → ℕ → List ℕ
+numbered n after = decimal n ++ (after ∷ [])
+
+-- a word, a number and the byte after it
+abbrev pub named : List ℕ → ℕ → ℕ → List ℕ
+named word n after = word ++ numbered n after
+
+-- a text stands in a page from a place on, the rest of the page is as it was, and `end` is the place after the text
+pub record Put (text old : List ℕ) (at : ℕ) (new : List ℕ) (end : ℕ) : Type 0 where
+  pub page-is : new ≡ sets old at text
+  pub end-is : end ≡ at + length text
