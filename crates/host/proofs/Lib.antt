@@ -1,3 +1,4 @@
 pub mod Places
 pub mod Making
 pub mod Answering
+pub mod Many

@@ -2,3 +2,4 @@ pub mod Places
 pub mod Made
 pub mod Calls
 pub mod Following
+pub mod Many

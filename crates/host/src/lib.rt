@@ -9,13 +9,15 @@
 //
 // Every call answers the paper's number and the count: number + 256 * count.
 ghost use mathlib.Core.Path.{_≡_};
-ghost use Prim.Native.Nat.{_≤_};
+ghost use Prim.Native.Nat.{_+_, _*_, _≤_};
 ghost use lib.ListN.{length, getD};
 ghost use Rattle.session.specs.Good.{Good};
 ghost use Rattle.host.specs.declared.Move.the-variants.{Load, Rest, Vector, Steps};
 ghost use Rattle.host.specs.Places.{clear, area, lastRoom};
 ghost use Rattle.host.specs.Made.{broken, madeBy, fitting, madePlain, madeRested, madeMoved, madeCard, madeLoaded, madeAgain};
 ghost use Rattle.host.specs.Calls.{packed, loadMove, operated, keptCard, keptRest, keptVector, keptBy, leftBy, hostMove, hostHistory};
+ghost use Rattle.host.specs.Many.{manyRun};
+ghost use Rattle.session.specs.Moves.{vectorOf};
 use card::Session;
 use rule::Answer;
 use rule::Refusal;
@@ -373,4 +375,46 @@ pub extern "C" fn krasvome_history(
         return pack(Answer::Refused(Refusal::NotReady));
     }
     pack(history::history(made.session, words, befores, flags))
+}
+
+// The words of a history in lent room from a place on, so many of them.
+fn put_words(words: &[u64; 256], n: usize, room: &mut [u64], at: usize)
+    requires { ⌜ (n ≤ 256) × (at + n ≤ length (now room)) ⌝ }
+    ensures { λ r. ⌜ now (room .exit) ≡ area (now (room .entry)) at (at + n) (now (words .entry)) ⌝ }
+{
+    let mut i: usize = 0;
+    while i < n {
+        room[at + i] = words[i];
+        i += 1;
+    }
+}
+
+// A vector by fields that fits: the session that it leaves.
+fn moved(s: Session, v: &[u8]) -> Session
+    requires { ⌜ Good s ⌝ }
+    ensures { λ r. ⌜ r ≡ vectorOf s (now (v .entry)) .session ⌝ }
+{
+    let left = session::vector(s, v);
+    left.session
+}
+
+// Vectors of n bytes each, one after another, the first k of them; the words of each history go to lent room, nets of them at a time.
+fn run_many(s: Session, vectors: &[u8], n: usize, k: usize, room: &mut [u64])
+    requires { ⌜ Good s ⌝ }
+    requires { ⌜ (k * n ≤ length (now vectors)) × (s .nets ≤ 256) × (k * s .nets ≤ length (now room)) ⌝ }
+    ensures { λ r. ⌜ now (room .exit) ≡ manyRun s (now (vectors .entry)) n k (now (room .entry)) .words ⌝ }
+{
+    let mut session = s;
+    let nets = s.nets;
+    let mut done: usize = 0;
+    let mut from: usize = 0;
+    let mut at: usize = 0;
+    while done < k {
+        session = moved(session, &vectors[from..from + n]);
+        let words = session.words;
+        put_words(&words, nets, room, at);
+        done += 1;
+        from += n;
+        at += nets;
+    }
 }
