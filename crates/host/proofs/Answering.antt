@@ -12,7 +12,7 @@ use Rattle.rule.specs.declared.Answer.the-variants.{Done, Refused}
 use Rattle.history.specs.Told.{Told, historyOf}
 use Rattle.host.specs.declared.Move.{Move}
 use Rattle.host.specs.Made.{madeAgain}
-use Rattle.host.specs.Calls.{packed, operated, keptBy, Hosted, leftBy, hostMove, Shown, hostHistory}
+use Rattle.host.specs.Calls.{packed, operated, keptBy, leftBy, hostMove, hostHistory}
 
 module _ (how : Move) (b v : List ℕ) where
   pub left-refused : (a : Answer) (why : Refusal) (r : ℕ) → a ≡ Refused why → r ≡ packed a → record { answer = r; bytes = b } ≡ leftBy how a b v

@@ -1,15 +1,15 @@
 -- Which way each function that makes a session again goes. Assumes nothing.
 use mathlib.Core.Path.{_≡_, refl, sym, ap, subst, _∙_}
-use mathlib.Core.Bool.{Bool, true, false, cond, _&&_}
+use mathlib.Core.Bool.{Bool, true, false, cond}
 use mathlib.Core.List.{List}
 use Prim.Native.Nat.{ℕ, _+_, _-_, _<_, _≤_}
 use native.Mathlib.Omega.{arith}
 use lib.Dec.{eqb, ltb}
 use lib.ListN.{length, getD, take, drop, length-take, List·getD-eq-default}
 use lib.Seq.{getD-take, getD-drop}
-use borrow.Author.Tests.{eq-eqb, ne-eqb, lt-ltb, le-ltb, ltb-true, ltb-false}
+use borrow.Author.Tests.{ne-eqb, lt-ltb, le-ltb, ltb-true, ltb-false}
 use Rattle.word.proofs.Sets.{count-le}
-use Rattle.rule.specs.Net.{netAt}
+use Rattle.rule.specs.Net.{Net, netAt}
 use Rattle.rule.specs.declared.Refusal.{Refusal}
 use Rattle.rule.specs.declared.Answer.{Answer}
 use Rattle.rule.specs.declared.Answer.the-variants.{Done, Refused}
@@ -18,6 +18,7 @@ use Rattle.records.specs.Written.{Bytes}
 use Rattle.card.specs.declared.Session.{Session}
 use Rattle.card.specs.Session.{none, isInput, inputsOf, sessionOf}
 use Rattle.card.specs.Load.{loadOf}
+use Rattle.card.specs.Allowed.{Accepted}
 use Rattle.card.proofs.Verdicts.{load-taken}
 use Rattle.session.specs.Good.{Good}
 use Rattle.session.proofs.Kept.{none-good, load-good, rest-good, vector-good}
@@ -186,10 +187,9 @@ again-good b h = go (eqb (getD b 0 0) 0) (ltb 5380 (u16At b 1)) (clear b (515 + 
     go false false false = broken-good
 
 -- a card that was taken has at most 256 inputs
-pub few-inputs : (s : List ℕ) → Bytes s → (count : ℕ) → loadOf none s .answer ≡ Done count → loadOf none s .session .inputs ≤ 256
+pub inputs-few : (c : List Net) → Accepted c → sessionOf c .inputs ≤ 256
 unfolding sessionOf inputsOf
-few-inputs s h count e =
-    let t = load-taken none s h count e in
-    let a = t .0 in
-    let most = count-le (λ n. isInput (netAt (a .card) n)) (length (a .card)) in
-    subst (λ x. x .session .inputs ≤ 256) (sym (t .1)) (omega (arith, most, a .accepted .legible .few))
+inputs-few c a = omega (arith, count-le (λ n. isInput (netAt c n)) (length c), a .legible .few)
+
+pub few-inputs : (s : List ℕ) → Bytes s → (count : ℕ) → loadOf none s .answer ≡ Done count → loadOf none s .session .inputs ≤ 256
+few-inputs s h count e = let t = load-taken none s h count e in subst (λ x. x .session .inputs ≤ 256) (sym (t .1)) (inputs-few (t .0 .card) (t .0 .accepted))

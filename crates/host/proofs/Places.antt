@@ -1,20 +1,21 @@
 -- Bytes by place: bytes that are all 0 from one place to another, and an area that was written. Assumes nothing.
 use mathlib.Core.Path.{_≡_, refl, sym, _∙_}
 use mathlib.Core.Bool.{Bool, true, false, cond, _&&_}
-use mathlib.Core.List.{List}
+use mathlib.Core.List.{List, [], _∷_}
 use mathlib.Core.Logic.{_⊎_, inl, inr}
 use Prim.Native.Nat.{ℕ, zero, suc, _+_, _-_, _≤_, _<_}
 use native.Mathlib.Omega.{arith}
-use lib.Dec.{eqb, leb, ltb}
-use lib.ListN.{length, getD, set}
+use lib.Dec.{eqb, leb, ltb, lit<}
+use lib.ListN.{length, getD, set, drop, length-drop}
+use lib.Seq.{getD-take, getD-drop, length-take-le}
 use borrow.Author.Tests.{eqb-true, eq-eqb, lt-ltb, le-ltb, le-leb, lt-leb, ltb-true, ltb-false}
-use Rattle.lists.specs.Entries.{_∈_, every, from}
+use Rattle.lists.specs.Entries.{from}
 use Rattle.lists.specs.Listed.{listed}
-use Rattle.lists.proofs.Bools.{and-both}
 use Rattle.lists.proofs.Tests.{every-at, every-yes}
 use Rattle.lists.proofs.Joined.{in-from, out-from}
-use Rattle.lists.proofs.Listed.{length-listed, listed-at, listed-past, listed-ext, listed-set, listed-self}
-use Rattle.host.specs.Places.{clear, area}
+use Rattle.lists.proofs.Listed.{length-listed, listed-at, listed-all, is-listed, listed-ext, listed-set, listed-self}
+use Rattle.records.specs.Written.{Bytes}
+use Rattle.host.specs.Places.{part, clear, area, lastRoom}
 
 -- Zeros
 
@@ -92,3 +93,46 @@ area-more b at i v l f = listed-set _ _ (length b) i _ f (rw (in-area at (i + 1)
         go : (x : Bool) → ltb j i ≡ x → cond (inside at (i + 1) j) (getD v (j - at) 0) (getD b j 0) ≡ cond (inside at i j) (getD v (j - at) 0) (getD b j 0)
         go true e = same (lt-ltb j (i + 1) (omega (arith, ltb-true j i e)) ∙ sym e)
         go false e = same (le-ltb j (i + 1) (omega (arith, ltb-false j i e)) ∙ sym e)
+
+-- Parts and bytes
+
+-- a part, entry by entry
+pub part-listed : (b : List ℕ) (at n : ℕ) → at + n ≤ length b → part b at n ≡ listed (λ i. getD b (at + i) 0) n
+part-listed b at n f =
+    is-listed (λ i. getD b (at + i) 0) n 0 (part b at n) (length-take-le n (drop at b) (rw (length-drop at b) (omega arith))) (λ i l. getD-take n (drop at b) i 0 l ∙ getD-drop at b i 0)
+
+-- parts with the same entries
+pub part-same : (b x : List ℕ) (at from n : ℕ) → at + n ≤ length b → from + n ≤ length x → ((i : ℕ) → i < n → getD b (at + i) 0 ≡ getD x (from + i) 0) → part b at n ≡ part x from n
+part-same b x at from n f g h =
+    part-listed b at n f ∙ listed-ext (λ i. getD b (at + i) 0) (λ i. getD x (from + i) 0) n h ∙ sym (part-listed x from n g)
+
+-- a part that has the entries of a whole list
+pub part-whole : (b v : List ℕ) (at : ℕ) → at + length v ≤ length b → ((i : ℕ) → i < length v → getD b (at + i) 0 ≡ getD v i 0) → part b at (length v) ≡ v
+part-whole b v at f h = part-listed b at (length v) f ∙ listed-ext (λ i. getD b (at + i) 0) (λ i. getD v i 0) (length v) h ∙ sym (listed-self v 0)
+
+-- an area of bytes within bytes
+pub area-bytes : (b : List ℕ) (at to : ℕ) (v : List ℕ) → Bytes b → Bytes v → Bytes (area b at to v)
+unfolding area
+area-bytes b at to v h k i =
+    listed-all (λ x. x < 256) (λ i. cond (inside at to i) (getD v (i - at) 0) (getD b i 0)) (length b) i 0 (either (inside at to i)) (lit< tt)
+  where
+    either : (x : Bool) → cond x (getD v (i - at) 0) (getD b i 0) < 256
+    either true = k (i - at)
+    either false = h i
+
+pub room-bytes : (b : List ℕ) → Bytes b → Bytes (lastRoom b)
+unfolding lastRoom
+room-bytes b h i = listed-all (λ x. x < 256) (λ i. getD b (259 + i) 0) 256 i 0 (h (259 + i)) (lit< tt)
+
+pub room-at : (b : List ℕ) (i : ℕ) → i < 256 → getD (lastRoom b) i 0 ≡ getD b (259 + i) 0
+unfolding lastRoom
+room-at b i l = listed-at (λ i. getD b (259 + i) 0) 256 i 0 l
+
+-- one byte
+pub one-byte : (k : ℕ) → k < 256 → Bytes (k ∷ [])
+one-byte k l zero = l
+one-byte k l (suc i) = lit< tt
+
+pub zero-byte : (i : ℕ) → getD {A = ℕ} (0 ∷ []) i 0 ≡ 0
+zero-byte zero = refl
+zero-byte (suc i) = refl

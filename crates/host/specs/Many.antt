@@ -1,9 +1,19 @@
 -- Many vectors in one call. Assumes nothing.
+use mathlib.Core.Bool.{cond}
 use mathlib.Core.List.{List}
-use Prim.Native.Nat.{ℕ, zero, suc, _+_, _*_}
+use Prim.Native.Nat.{ℕ, zero, suc, _+_, _-_, _*_, _/_, _%_}
+use lib.Dec.{eqb, leb, ltb}
+use lib.ListN.{length}
+use Rattle.lists.specs.Entries.{every}
+use Rattle.rule.specs.declared.Refusal.the-variants.{NotReady, VectorLength, VectorByte, NoRoom}
+use Rattle.rule.specs.declared.Answer.{Answer}
+use Rattle.rule.specs.declared.Answer.the-variants.{Done, Refused}
 use Rattle.card.specs.declared.Session.{Session}
+use Rattle.session.specs.Inputs.{byteFits}
 use Rattle.session.specs.Moves.{vectorOf}
 use Rattle.host.specs.Places.{part, area}
+use Rattle.host.specs.Made.{madeAgain}
+use Rattle.host.specs.Calls.{packed, keptVector}
 
 -- a session, and lent room for words
 pub record Ran : Type 0 where
@@ -18,3 +28,38 @@ manyRun s vs n (suc k) room =
     let ran = manyRun s vs n k room in
     let next = vectorOf (ran .session) (part vs (k * n) n) .session in
     record { session = next; words = area (ran .words) (k * s .nets) (k * s .nets + s .nets) (next .words) }
+
+-- "Vector by either engine: 12, 10, 11", of many at once: as many bytes as there are inputs for each, every one 0 or 1; and 18 where there is too little room
+-- for a word a net and vector. Done says how many vectors they are
+unfoldable pub manyJudged : Session → List ℕ → ℕ → Answer
+manyJudged s vs room =
+    cond (s .rested)
+    (cond (eqb (length vs % s .inputs) 0)
+    (cond (every byteFits vs)
+    (cond (leb (length vs / s .inputs * s .nets) room) (Done (length vs / s .inputs)) (Refused NoRoom))
+    (Refused VectorByte))
+    (Refused VectorLength))
+    (Refused NotReady)
+
+-- what is kept of the bytes: the last two vectors
+unfoldable pub keptMany : List ℕ → List ℕ → ℕ → ℕ → List ℕ
+keptMany b vs n zero = b
+keptMany b vs n (suc zero) = keptVector b (part vs 0 n)
+keptMany b vs n (suc (suc k)) = keptVector (keptVector b (part vs (k * n) n)) (part vs ((k + 1) * n) n)
+
+pub record Shown : Type 0 where
+  pub answer : ℕ
+  pub bytes : List ℕ
+  pub words : List ℕ
+
+-- all of them, or none
+abbrev pub manyDone : Session → List ℕ → List ℕ → List ℕ → Answer → Shown
+manyDone s b vs room (Refused why) = record { answer = packed (Refused why); bytes = b; words = room }
+manyDone s b vs room (Done k) = record { answer = 0; bytes = keptMany b vs (s .inputs) k; words = manyRun s vs (s .inputs) k room .words }
+
+unfoldable pub hostVectors : List ℕ → List ℕ → List ℕ → Shown
+hostVectors b vs room =
+    let m = madeAgain b in
+    let kept : Answer → Shown = λ a. record { answer = packed a; bytes = b; words = room } in
+    cond (ltb (length b) 5895) (kept (Refused NoRoom))
+    (cond (m .whole) (manyDone (m .session) b vs room (manyJudged (m .session) vs (length room))) (kept (Refused NotReady)))

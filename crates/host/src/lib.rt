@@ -16,7 +16,7 @@ ghost use Rattle.host.specs.declared.Move.the-variants.{Load, Rest, Vect
 ghost use Rattle.host.specs.Places.{clear, area, lastRoom};
 ghost use Rattle.host.specs.Made.{broken, madeBy, fitting, madePlain, madeRested, madeMoved, madeCard, madeLoaded, madeAgain};
 ghost use Rattle.host.specs.Calls.{packed, loadMove, operated, keptCard, keptRest, keptVector, keptBy, leftBy, hostMove, hostHistory};
-ghost use Rattle.host.specs.Many.{manyRun};
+ghost use Rattle.host.specs.Many.{manyRun, manyJudged, keptMany, manyDone, hostVectors};
 ghost use Rattle.session.specs.Moves.{vectorOf};
 use card::Session;
 use rule::Answer;
@@ -417,4 +417,76 @@ fn run_many(s: Session, vectors: &[u8], n: usize, k: usize, room: &mut [u64])
         from += n;
         at += nets;
     }
+}
+
+// Whether so many bytes are vectors for the session, and there is room for the words: 12, 10, 11, 18, or how many vectors they are.
+fn judge_many(s: Session, vectors: &[u8], room: usize) -> Answer
+    requires { ⌜ Good s ⌝ }
+    ensures { λ r. ⌜ r ≡ manyJudged s (now (vectors .entry)) room ⌝ }
+{
+    if !s.rested {
+        return Answer::Refused(Refusal::NotReady);
+    }
+    let n = s.inputs;
+    let nets = s.nets;
+    if vectors.len() % n != 0 {
+        return Answer::Refused(Refusal::VectorLength);
+    }
+    if !session::bytes_fit(vectors) {
+        return Answer::Refused(Refusal::VectorByte);
+    }
+    let k = vectors.len() / n;
+    if room / nets < k {
+        return Answer::Refused(Refusal::NoRoom);
+    }
+    Answer::Done(k)
+}
+
+// What is kept after many vectors: the last two.
+fn keep_many(b: &mut [u8], vectors: &[u8], n: usize, k: usize)
+    requires { ⌜ (5895 ≤ length (now b)) × (k * n ≤ length (now vectors)) ⌝ }
+    ensures { λ r. ⌜ now (b .exit) ≡ keptMany (now (b .entry)) (now (vectors .entry)) n k ⌝ }
+{
+    if k == 0 {
+        return;
+    }
+    let last = (k - 1) * n;
+    if k == 1 {
+        keep_vector(b, &vectors[last..last + n]);
+        return;
+    }
+    let older = (k - 2) * n;
+    keep_vector(b, &vectors[older..older + n]);
+    keep_vector(b, &vectors[last..last + n]);
+}
+
+// Many vectors on a session that was made again.
+fn do_many(s: Session, b: &mut [u8], vectors: &[u8], words: &mut [u64]) -> u64
+    requires { ⌜ Good s ⌝ }
+    requires { ⌜ 5895 ≤ length (now b) ⌝ }
+    ensures { λ r. ⌜ record { answer = r; bytes = now (b .exit); words = now (words .exit) } ≡ manyDone s (now (b .entry)) (now (vectors .entry)) (now (words .entry)) (manyJudged s (now (vectors .entry)) (length (now (words .entry)))) ⌝ }
+{
+    let verdict = judge_many(s, vectors, words.len());
+    match verdict {
+        Answer::Refused(_) => pack(verdict),
+        Answer::Done(k) => {
+            run_many(s, vectors, s.inputs, k, words);
+            keep_many(b, vectors, s.inputs, k);
+            0
+        }
+    }
+}
+
+#[no_mangle]
+pub extern "C" fn krasvome_vectors(session: &mut [u8], vectors: &[u8], words: &mut [u64]) -> u64
+    ensures { λ r. ⌜ record { answer = r; bytes = now (session .exit); words = now (words .exit) } ≡ hostVectors (now (session .entry)) (now (vectors .entry)) (now (words .entry)) ⌝ }
+{
+    if session.len() < SESSION {
+        return pack(Answer::Refused(Refusal::NoRoom));
+    }
+    let made = made_again(session);
+    if !made.whole {
+        return pack(Answer::Refused(Refusal::NotReady));
+    }
+    do_many(made.session, session, vectors, words)
 }
