@@ -41,11 +41,14 @@ manyJudged s vs room =
     (Refused VectorLength))
     (Refused NotReady)
 
--- what is kept of the bytes: the last two vectors
+-- what is kept of the bytes after vector j; after k of them, the last two
+abbrev pub keptAt : List ℕ → List ℕ → ℕ → ℕ → List ℕ
+keptAt b vs n j = keptVector b (part vs (j * n) n)
+
 unfoldable pub keptMany : List ℕ → List ℕ → ℕ → ℕ → List ℕ
 keptMany b vs n zero = b
-keptMany b vs n (suc zero) = keptVector b (part vs 0 n)
-keptMany b vs n (suc (suc k)) = keptVector (keptVector b (part vs (k * n) n)) (part vs ((k + 1) * n) n)
+keptMany b vs n (suc zero) = keptAt b vs n 0
+keptMany b vs n (suc (suc k)) = keptAt (keptAt b vs n k) vs n (suc k)
 
 pub record Shown : Type 0 where
   pub answer : ℕ

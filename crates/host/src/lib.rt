@@ -16,7 +16,7 @@ ghost use Rattle.host.specs.declared.Move.the-variants.{Load, Rest, Vect
 ghost use Rattle.host.specs.Places.{clear, area, lastRoom};
 ghost use Rattle.host.specs.Made.{broken, madeBy, fitting, madePlain, madeRested, madeMoved, madeCard, madeLoaded, madeAgain};
 ghost use Rattle.host.specs.Calls.{packed, loadMove, operated, keptCard, keptRest, keptVector, keptBy, leftBy, hostMove, hostHistory};
-ghost use Rattle.host.specs.Many.{manyRun, manyJudged, keptMany, manyDone, hostVectors};
+ghost use Rattle.host.specs.Many.{manyRun, manyJudged, keptAt, keptMany, manyDone, hostVectors};
 ghost use Rattle.session.specs.Moves.{vectorOf};
 use card::Session;
 use rule::Answer;
@@ -442,6 +442,15 @@ fn judge_many(s: Session, vectors: &[u8], room: usize) -> Answer
     Answer::Done(k)
 }
 
+// What is kept after vector j of many, of n bytes each.
+fn keep_at(b: &mut [u8], vectors: &[u8], n: usize, j: usize)
+    requires { ⌜ (5895 ≤ length (now b)) × (j * n + n ≤ length (now vectors)) ⌝ }
+    ensures { λ r. ⌜ now (b .exit) ≡ keptAt (now (b .entry)) (now (vectors .entry)) n j ⌝ }
+{
+    let from = j * n;
+    keep_vector(b, &vectors[from..from + n]);
+}
+
 // What is kept after many vectors: the last two.
 fn keep_many(b: &mut [u8], vectors: &[u8], n: usize, k: usize)
     requires { ⌜ (5895 ≤ length (now b)) × (k * n ≤ length (now vectors)) ⌝ }
@@ -450,14 +459,12 @@ fn keep_many(b: &mut [u8], vectors: &[u8], n: usize, k: usize)
     if k == 0 {
         return;
     }
-    let last = (k - 1) * n;
     if k == 1 {
-        keep_vector(b, &vectors[last..last + n]);
+        keep_at(b, vectors, n, 0);
         return;
     }
-    let older = (k - 2) * n;
-    keep_vector(b, &vectors[older..older + n]);
-    keep_vector(b, &vectors[last..last + n]);
+    keep_at(b, vectors, n, k - 2);
+    keep_at(b, vectors, n, k - 1);
 }
 
 // Many vectors on a session that was made again.

@@ -50,11 +50,12 @@ loop-again c =
     let start = c .before .before .before in
     let a = start .args in
     let here : a .at + l .i - a .at ≡ l .i = omega arith in
-    let next : a .at + l .i + 1 ≡ a .at + (l .i + 1) = omega arith in
-    (omega (arith, c .before .loop-test .taken),
-    ap₂ (λ x y. set x (a .at + l .i) y) (l .inv .1) (ap (λ k. getD (a .words .now) k 0) (sym here))
-    ∙ area-more (a .room .now) (a .at) (a .at + l .i) (a .words .now) (omega arith) (omega (arith, start .pre .1, c .before .loop-test .taken))
-    ∙ ap (λ k. area (a .room .now) (a .at) k (a .words .now)) next)
+    let next : a .at + l .i + 1 ≡ a .at + (l .i + 1) = omega arith in (
+      omega (arith, c .before .loop-test .taken),
+      ap₂ (λ x y. set x (a .at + l .i) y) (l .inv .1) (ap (λ k. getD (a .words .now) k 0) (sym here))
+          ∙ area-more (a .room .now) (a .at) (a .at + l .i) (a .words .now) (omega arith) (omega (arith, start .pre .1, c .before .loop-test .taken))
+          ∙ ap (λ k. area (a .room .now) (a .at) k (a .words .now)) next,
+    )
 
 same-length : tie.Need-same-length Inv-loop μ-loop
 same-length c =

@@ -86,13 +86,14 @@ loop-again c =
     let start = i .before .before .before .before in
     let a = start .args in
     let next = m .moved .ensures ∙ ap₂ (λ x y. vectorOf x y .session) (l .inv .4) (ap (λ x. take (x + a .n - x) (drop x (a .vectors .now))) (l .inv .1) ∙ part-of (a .vectors .now) (l .done * a .n) (a .n)) in
-    let more = many-more (a .s) (a .vectors .now) (a .n) (l .done) (a .room .now) in
-    (omega (arith, i .loop-test .taken),
-    ap (λ x. x + a .n) (l .inv .1) ∙ turn-next (l .done) (a .n),
-    ap (λ x. x + a .s .nets) (l .inv .2) ∙ turn-next (l .done) (a .s .nets),
-    subst Good (sym (m .moved .ensures)) (vector-good (l .session) (l .inv .3) _),
-    next ∙ sym (ap (λ x. x .session) more),
-    p .put-words .ensures ∙ (λ z. area (l .inv .5 z) (l .inv .2 z) (l .inv .2 z + a .s .nets) (next z .words)) ∙ sym (ap (λ x. x .words) more))
+    let more = many-more (a .s) (a .vectors .now) (a .n) (l .done) (a .room .now) in (
+      omega (arith, i .loop-test .taken),
+      ap (λ x. x + a .n) (l .inv .1) ∙ turn-next (l .done) (a .n),
+      ap (λ x. x + a .s .nets) (l .inv .2) ∙ turn-next (l .done) (a .s .nets),
+      subst Good (sym (m .moved .ensures)) (vector-good (l .session) (l .inv .3) _),
+      next ∙ sym (ap (λ x. x .session) more),
+      p .put-words .ensures ∙ (λ z. area (l .inv .5 z) (l .inv .2 z) (l .inv .2 z + a .s .nets) (next z .words)) ∙ sym (ap (λ x. x .words) more),
+    )
 
 same-length : tie.Need-same-length Inv-loop μ-loop
 same-length c = let l = c .before .loop in let a = c .before .before .before .before .args in ap length (l .inv .5) ∙ many-length (a .s) (a .vectors .now) (a .n) (l .done) (a .room .now)
