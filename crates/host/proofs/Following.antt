@@ -28,12 +28,13 @@ use Rattle.session.specs.Inputs.{given, vectorFits}
 use Rattle.session.specs.Moves.{refusedMove, moving, movedBy, vectorOf, restedBy, restOf}
 use Rattle.session.proofs.Refusals.{Ruling, refuses, takes, rest-ruled, vector-ruled}
 use Rattle.history.specs.Told.{Told, historyOf}
+use Rattle.steps.specs.Variables.{Ran}
 use Rattle.steps.specs.Vector.{ranAlong, ranSession, stepsVectorOf}
 use Rattle.steps.proofs.Engines.{run-count, engines-equal}
 use Rattle.host.specs.declared.Move.{Move}
 use Rattle.host.specs.declared.Move.the-variants.{Load, Rest, Vector, Steps}
 use Rattle.host.specs.Made.{madeAgain}
-use Rattle.host.specs.Calls.{packed, operated, leftBy, hostMove, hostHistory}
+use Rattle.host.specs.Calls.{packed, operated, Hosted, leftBy, hostMove, hostHistory}
 use Rattle.host.specs.Following.{Holding, Call, bytesAfter, sessionAfter, hostAnswers, libraryAnswers}
 use Rattle.host.proofs.Places.{clear-make}
 use Rattle.host.proofs.Making.{again-good}
@@ -50,9 +51,14 @@ pub refused-kept : (how : Move) (b v : List ℕ) → ¬ (hostMove how b v .answe
 unfolding hostMove packed
 refused-kept how b v n = go (ltb (length b) 5895) (madeAgain b .whole) (operated how (madeAgain b .session) v .answer) n
   where
-    go : (x y : Bool) (a : Answer)
-        → ¬ (cond x (record { answer = packed (Refused NoRoom); bytes = b }) (cond y (leftBy how a b v) (record { answer = packed (Refused NotReady); bytes = b })) .answer % 256 ≡ 0)
-        → cond x (record { answer = packed (Refused NoRoom); bytes = b }) (cond y (leftBy how a b v) (record { answer = packed (Refused NotReady); bytes = b })) .bytes ≡ b
+    short : Hosted
+    short = record { answer = packed (Refused NoRoom); bytes = b }
+
+    unready : Hosted
+    unready = record { answer = packed (Refused NotReady); bytes = b }
+
+    go : (x y : Bool) (a : Answer) → ¬ (cond x short (cond y (leftBy how a b v) unready) .answer % 256 ≡ 0)
+        → cond x short (cond y (leftBy how a b v) unready) .bytes ≡ b
     go true y a n = refl
     go false false a n = refl
     go false true (Refused why) n = refl
@@ -70,7 +76,8 @@ module _ (b : List ℕ) (s : Session) (h : Holding b s) where
 
   module _ (v : List ℕ) (g : Bytes v) where
     move-is : (how : Move) → hostMove how b v ≡ leftBy how (operated how s v .answer) b v
-    move-is how = sym (move-left how b v (h .room) (ap (λ m. m .whole) (h .made))) ∙ ap (λ m. leftBy how (operated how (m .session) v .answer) b v) (h .made)
+    move-is how =
+        sym (move-left how b v (h .room) (ap (λ m. m .whole) (h .made))) ∙ ap (λ m. leftBy how (operated how (m .session) v .answer) b v) (h .made)
 
     left-answer : (how : Move) (a : Answer) → leftBy how a b v .answer ≡ packed a
     left-answer how (Refused why) = refl
@@ -108,7 +115,8 @@ module _ (b : List ℕ) (s : Session) (h : Holding b s) where
         (movedBy s (given (s .kinds) v)) (ranSession s (ranAlong s (given (s .kinds) v) (stepList (cardOf s))))
       where
         go : (x : Bool) (f : Verdict) (count : ℕ) (p q : Session)
-            → leftBy Vector (cond x (moving s f 0 p) (refusedMove s NotReady) .answer) b v .bytes ≡ leftBy Steps (cond x (moving s f count q) (refusedMove s NotReady) .answer) b v .bytes
+            → leftBy Vector (cond x (moving s f 0 p) (refusedMove s NotReady) .answer) b v .bytes
+            ≡ leftBy Steps (cond x (moving s f count q) (refusedMove s NotReady) .answer) b v .bytes
         go false f count p q = refl
         go true (Faulty why) count p q = refl
         go true Passed count p q = refl
@@ -129,7 +137,8 @@ pub move-follows : (how : Move) (b v : List ℕ) (s : Session) → Holding b s �
     → Holding (hostMove how b v .bytes) (operated how s v .session) × (hostMove how b v .answer ≡ packed (operated how s v .answer))
 move-follows how b v s h g =
     let e = move-is b s h v g how in
-    (subst (λ x. Holding (x .bytes) (operated how s v .session)) (sym e) (follows b s h v g how), ap (λ x. x .answer) e ∙ left-answer b s h v g how (operated how s v .answer))
+    let left = subst (λ x. Holding (x .bytes) (operated how s v .session)) (sym e) (follows b s h v g how) in
+    (left, ap (λ x. x .answer) e ∙ left-answer b s h v g how (operated how s v .answer))
 
 -- and so do the calls of any sequence
 pub calls-follow : (cs : List Call) (b : List ℕ) (s : Session) → Holding b s → ((c : Call) → c ∈ cs → Bytes (c .given))
@@ -138,11 +147,13 @@ unfolding bytesAfter sessionAfter hostAnswers libraryAnswers
 calls-follow [] b s h g = (h, refl)
 calls-follow (c ∷ cs) b s h g =
     let m = move-follows (c .how) b (c .given) s h (g c (List·Memᴰ·head refl)) in
-    let rest = calls-follow cs (hostMove (c .how) b (c .given) .bytes) (operated (c .how) s (c .given) .session) (m .0) (λ x i. g x (List·Memᴰ·tail i)) in
+    let left = hostMove (c .how) b (c .given) .bytes in
+    let rest = calls-follow cs left (operated (c .how) s (c .given) .session) (m .0) (λ x i. g x (List·Memᴰ·tail i)) in
     (rest .0, ap₂ _∷_ (m .1) (rest .1))
 
 -- from a slice of zeros on, which is the empty session
-pub all-follow : (cs : List Call) (b : List ℕ) → 5895 ≤ length b → Bytes b → ((i : ℕ) → i < 5895 → getD b i 0 ≡ 0) → ((c : Call) → c ∈ cs → Bytes (c .given))
+pub all-follow : (cs : List Call) (b : List ℕ) → 5895 ≤ length b → Bytes b → ((i : ℕ) → i < 5895 → getD b i 0 ≡ 0)
+    → ((c : Call) → c ∈ cs → Bytes (c .given))
     → Holding (bytesAfter b cs) (sessionAfter none cs) × (hostAnswers b cs ≡ libraryAnswers none cs)
 all-follow cs b l h z g = calls-follow cs b none (zeros-hold b l h z) g
 
@@ -152,7 +163,8 @@ pub history-follows : (b : List ℕ) (s : Session) → Holding b s → (words be
     ≡ (let t = historyOf s words befores flags in record { answer = packed (t .answer); words = t .words; befores = t .befores; flags = t .flags })
 history-follows b s h words befores flags =
     let t = historyOf s words befores flags in
-    sym (history-shown b words befores flags (packed (t .answer)) t (h .room) (ap (λ m. m .whole) (h .made)) (sym (ap (λ m. historyOf (m .session) words befores flags) (h .made))) refl)
+    let e = ap (λ m. historyOf (m .session) words befores flags) (h .made) in
+    sym (history-shown b words befores flags (packed (t .answer)) t (h .room) (ap (λ m. m .whole) (h .made)) (sym e) refl)
 
 -- The count is whole in the number that is handed back
 
@@ -179,8 +191,11 @@ module _ (s : Session) (v : List ℕ) where
       new : ℕ → Bool
       new = given (s .kinds) v
 
+      run : Ran
+      run = ranAlong s new (stepList (cardOf s))
+
       go : (x : Bool) → s .rested ≡ x → (f : Verdict)
-          → answerCount (cond x (moving s f (ranAlong s new (stepList (cardOf s)) .count) (ranSession s (ranAlong s new (stepList (cardOf s))))) (refusedMove s NotReady) .answer) ≤ 4096
+          → answerCount (cond x (moving s f (run .count) (ranSession s run)) (refusedMove s NotReady) .answer) ≤ 4096
       go false e f = lit≤ tt
       go true e (Faulty why) = lit≤ tt
       go true e Passed = omega (arith, run-count s new (stepList (cardOf s)), card-steps s (g .card (g .rest e .0)))
@@ -191,7 +206,8 @@ module _ (s : Session) (v : List ℕ) where
   few-counted Vector g h = few-ruled (s .rested) (movedBy s (given (s .kinds) v)) (vectorOf s v) (vector-ruled s v)
   few-counted Steps g h = few-steps g
 
-  pub packed-plain : (how : Move) → Good s → Bytes v → packed (operated how s v .answer) ≡ answerNumber (operated how s v .answer) + 256 * answerCount (operated how s v .answer)
+  pub packed-plain : (how : Move) → Good s → Bytes v
+      → packed (operated how s v .answer) ≡ answerNumber (operated how s v .answer) + 256 * answerCount (operated how s v .answer)
   packed-plain how g h = packed-few (operated how s v .answer) (few-counted how g h)
 
 -- a history's count is the number of nets
@@ -206,8 +222,11 @@ module _ (s : Session) (g : Good s) (words befores flags : List ℕ) where
       few : s .rested ≡ true → s .nets ≤ 4096
       few e = let h = g .card (g .rest e .0) in omega (arith, nets-are s h, card-fits s h .fits .few)
 
+      shown : List ℕ → List ℕ → List ℕ → Told
+      shown p q r = record { answer = Done (s .nets); words = p; befores = q; flags = r }
+
       go : (x : Bool) → s .rested ≡ x → (y : Bool) (p q r : List ℕ)
-          → answerCount (cond x (cond y (record { answer = Done (s .nets); words = p; befores = q; flags = r }) (kept (Refused NoRoom))) (kept (Refused NotReady)) .answer) ≤ 4096
+          → answerCount (cond x (cond y (shown p q r) (kept (Refused NoRoom))) (kept (Refused NotReady)) .answer) ≤ 4096
       go false e y p q r = lit≤ tt
       go true e false p q r = lit≤ tt
       go true e true p q r = few e

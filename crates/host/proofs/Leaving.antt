@@ -53,9 +53,10 @@ module _ (b v : List ℕ) (long : 5895 ≤ length b) (bytes : Bytes b) (given-by
   carried-on : (k : ℕ) (o : List ℕ) (c : List Net) → Carried b c → Carried (rooms b k o v) c
   carried-on k o c d =
       let e = rooms-length b k o v long in
+      let clean = rooms-clear b k o v long (515 + u16At b 1) (omega arith) (d .empty) in
       record {
         low = subst (λ n. n ≤ 5380) (sym e) (d .low);
-        empty = subst (λ n. clear (rooms b k o v) (515 + n) 5895 ≡ true) (sym e) (rooms-clear b k o v long (515 + u16At b 1) (omega arith) (d .empty));
+        empty = subst (λ n. clear (rooms b k o v) (515 + n) 5895 ≡ true) (sym e) clean;
         bytes = ap (part (rooms b k o v) 515) e ∙ rooms-card b k o v long (u16At b 1) (d .low) ∙ d .bytes;
         accepted = d .accepted;
       }
@@ -81,7 +82,8 @@ module _ (b v : List ℕ) (long : 5895 ≤ length b) (bytes : Bytes b) (given-by
 
     -- A card at rest that a vector just moved
 
-    moved-kept : clear b (259 + inputs c) 515 ≡ true → Vector (inputs c) (part b 259 (inputs c)) → Kept (rooms b 3 (lastRoom b) v) (afterBoth c (part b 259 (inputs c)) v)
+    moved-kept : clear b (259 + inputs c) 515 ≡ true → Vector (inputs c) (part b 259 (inputs c))
+        → Kept (rooms b 3 (lastRoom b) v) (afterBoth c (part b 259 (inputs c)) v)
     moved-kept f u =
         let e = as-given 3 (lastRoom b) in
         let m = room-moved b v long (inputs c) (inputs-few c (d .accepted)) in

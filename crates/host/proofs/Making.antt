@@ -57,16 +57,19 @@ module _ (b : List ℕ) (s : Session) where
   unfolding madeMoved
   moved-not e = rw e
 
-  pub moved-refused : fitting b (s .inputs) (s .inputs) ≡ true → (r : Moved) → r ≡ restOf s (part b 3 (s .inputs)) → (why : Refusal) → r .answer ≡ Refused why → broken ≡ madeMoved b s
+  pub moved-refused : fitting b (s .inputs) (s .inputs) ≡ true → (r : Moved) → r ≡ restOf s (part b 3 (s .inputs))
+      → (why : Refusal) → r .answer ≡ Refused why → broken ≡ madeMoved b s
   unfolding madeMoved
-  moved-refused e r q why w = rw e (sym (ap (λ a. done a (madeBy (vectorOf (restOf s (part b 3 (s .inputs)) .session) (part b 259 (s .inputs))))) (sym (ap (λ x. x .answer) q) ∙ w)))
+  moved-refused e r q why w =
+      let m = madeBy (vectorOf (restOf s (part b 3 (s .inputs)) .session) (part b 259 (s .inputs))) in
+      rw e (sym (ap (λ a. done a m) (sym (ap (λ x. x .answer) q) ∙ w)))
 
   pub moved-is : fitting b (s .inputs) (s .inputs) ≡ true → (r : Moved) → r ≡ restOf s (part b 3 (s .inputs)) → (count : ℕ) → r .answer ≡ Done count
       → madeBy (vectorOf (r .session) (part b 259 (s .inputs))) ≡ madeMoved b s
   unfolding madeMoved
   moved-is e r q count w =
-      rw e (ap (λ x. madeBy (vectorOf (x .session) (part b 259 (s .inputs)))) q
-      ∙ sym (ap (λ a. done a (madeBy (vectorOf (restOf s (part b 3 (s .inputs)) .session) (part b 259 (s .inputs))))) (sym (ap (λ x. x .answer) q) ∙ w)))
+      let m = madeBy (vectorOf (restOf s (part b 3 (s .inputs)) .session) (part b 259 (s .inputs))) in
+      rw e (ap (λ x. madeBy (vectorOf (x .session) (part b 259 (s .inputs)))) q ∙ sym (ap (λ a. done a m) (sym (ap (λ x. x .answer) q) ∙ w)))
 
   pub card-1 : getD b 0 0 ≡ 1 → madePlain b s ≡ madeCard b s
   unfolding madeCard
@@ -90,7 +93,8 @@ pub loaded-refused : (b : List ℕ) (len : ℕ) (why : Refusal) → loadOf none 
 unfolding madeLoaded
 loaded-refused b len why e = sym (ap (λ a. done a (madeCard b (loadOf none (part b 515 len) .session))) e)
 
-pub loaded-is : (b : List ℕ) (len count : ℕ) → loadOf none (part b 515 len) .answer ≡ Done count → madeCard b (loadOf none (part b 515 len) .session) ≡ madeLoaded b len
+pub loaded-is : (b : List ℕ) (len count : ℕ) → loadOf none (part b 515 len) .answer ≡ Done count
+    → madeCard b (loadOf none (part b 515 len) .session) ≡ madeLoaded b len
 unfolding madeLoaded
 loaded-is b len count e = sym (ap (λ a. done a (madeCard b (loadOf none (part b 515 len) .session))) e)
 
@@ -178,9 +182,12 @@ again-good b h = go (eqb (getD b 0 0) 0) (ltb 5380 (u16At b 1)) (clear b (515 + 
     card = part b 515 (u16At b 1)
 
     loaded : Good (madeLoaded b (u16At b 1) .session)
-    loaded = done-good (loadOf none card .answer) (madeCard b (loadOf none card .session)) (card-good b (loadOf none card .session) (load-good none card none-good (part-bytes b h 515 (u16At b 1))))
+    loaded =
+        done-good (loadOf none card .answer) (madeCard b (loadOf none card .session))
+        (card-good b (loadOf none card .session) (load-good none card none-good (part-bytes b h 515 (u16At b 1))))
 
-    go : (x y z : Bool) → Good (cond x (record { whole = clear b 0 5895; session = none }) (cond y broken (cond z (madeLoaded b (u16At b 1)) broken)) .session)
+    go : (x y z : Bool)
+        → Good (cond x (record { whole = clear b 0 5895; session = none }) (cond y broken (cond z (madeLoaded b (u16At b 1)) broken)) .session)
     go true y z = none-good
     go false true z = broken-good
     go false false true = loaded
@@ -192,4 +199,6 @@ unfolding sessionOf inputsOf
 inputs-few c a = omega (arith, count-le (λ n. isInput (netAt c n)) (length c), a .legible .few)
 
 pub few-inputs : (s : List ℕ) → Bytes s → (count : ℕ) → loadOf none s .answer ≡ Done count → loadOf none s .session .inputs ≤ 256
-few-inputs s h count e = let t = load-taken none s h count e in subst (λ x. x .session .inputs ≤ 256) (sym (t .1)) (inputs-few (t .0 .card) (t .0 .accepted))
+few-inputs s h count e =
+    let t = load-taken none s h count e in
+    subst (λ x. x .session .inputs ≤ 256) (sym (t .1)) (inputs-few (t .0 .card) (t .0 .accepted))

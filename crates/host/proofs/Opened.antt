@@ -77,21 +77,25 @@ both-taken c v w h = vector-takes (atRest c v) w refl h
 
 module _ (b : List ℕ) (h : Bytes b) where
   carries : (c : List Net) → Carried b c → loadOf none (part b 515 (u16At b 1)) ≡ taken c
-  carries c k = load-takes none (part b 515 (u16At b 1)) (part-bytes b h 515 (u16At b 1)) (record { card = c; bytes = k .bytes; accepted = k .accepted })
+  carries c k =
+      load-takes none (part b 515 (u16At b 1)) (part-bytes b h 515 (u16At b 1)) (record { card = c; bytes = k .bytes; accepted = k .accepted })
 
   by-card : (c : List Net) (s : Session) → Carried b c → ¬ (getD b 0 0 ≡ 0) → madeCard b (sessionOf c) ≡ held s → madeAgain b ≡ held s
   by-card c s k n e =
       let l = carries c k in
-      sym (again-loaded b n (k .low) (k .empty)) ∙ sym (loaded-is b (u16At b 1) (length c) (ap (λ x. x .answer) l)) ∙ ap (λ x. madeCard b (x .session)) l ∙ e
+      sym (again-loaded b n (k .low) (k .empty)) ∙ sym (loaded-is b (u16At b 1) (length c) (ap (λ x. x .answer) l))
+      ∙ ap (λ x. madeCard b (x .session)) l ∙ e
 
   pub closed : (s : Session) → Kept b s → madeAgain b ≡ held s
   closed s (keeps-none z e) = sym (again-none b z) ∙ ap (λ x. record { whole = x; session = none }) e
-  closed s (keeps-card c k z f) = by-card c s k (λ o. let x = sym z ∙ o in omega arith) (sym (card-1 b (sessionOf c) z) ∙ sym (plain-is b (sessionOf c) f))
+  closed s (keeps-card c k z f) =
+      by-card c s k (λ o. let x = sym z ∙ o in omega arith) (sym (card-1 b (sessionOf c) z) ∙ sym (plain-is b (sessionOf c) f))
   closed s (keeps-rest c k z f w) =
       let v = part b 259 (inputs c) in
       let t = rest-taken c v w in
       by-card c s k (λ o. let x = sym z ∙ o in omega arith)
-      (sym (card-2 b (sessionOf c) z) ∙ sym (rested-is b (sessionOf c) f) ∙ ap madeBy t ∙ sym (by-done (record { answer = Done 0; session = s }) 0 refl))
+      (sym (card-2 b (sessionOf c) z) ∙ sym (rested-is b (sessionOf c) f) ∙ ap madeBy t
+      ∙ sym (by-done (record { answer = Done 0; session = s }) 0 refl))
   closed s (keeps-moved c k z f w u) =
       let o = part b 3 (inputs c) in
       let v = part b 259 (inputs c) in
@@ -126,7 +130,8 @@ module _ (b : List ℕ) (h : Bytes b) where
         v : List ℕ
         v = part b 259 (inputs c)
 
-        by : fitting b 0 (inputs c) ≡ true → (m : Moved) → Ruling (sessionOf c .loaded) (sessionOf c) v (atRest c v) m → Opens (done (m .answer) (held (m .session)))
+        by : fitting b 0 (inputs c) ≡ true → (m : Moved) → Ruling (sessionOf c .loaded) (sessionOf c) v (atRest c v) m
+            → Opens (done (m .answer) (held (m .session)))
         by f m (refuses r g) = opens-not
         by f m (takes l w) = inr (keeps-rest c k z f w)
 
@@ -144,15 +149,19 @@ module _ (b : List ℕ) (h : Bytes b) where
         v : List ℕ
         v = part b 259 (inputs c)
 
-        last : fitting b (inputs c) (inputs c) ≡ true → Vector (inputs c) o → (m : Moved) → Ruling (atRest c o .rested) (atRest c o) v (afterBoth c o v) m → Opens (done (m .answer) (held (m .session)))
+        last : fitting b (inputs c) (inputs c) ≡ true → Vector (inputs c) o
+            → (m : Moved) → Ruling (atRest c o .rested) (atRest c o) v (afterBoth c o v) m
+            → Opens (done (m .answer) (held (m .session)))
         last f w m (refuses r g) = opens-not
         last f w m (takes l u) = inr (keeps-moved c k z f w u)
 
-        by : fitting b (inputs c) (inputs c) ≡ true → (m : Moved) → Ruling (sessionOf c .loaded) (sessionOf c) o (atRest c o) m → Opens (done (m .answer) (madeBy (vectorOf (m .session) v)))
+        by : fitting b (inputs c) (inputs c) ≡ true → (m : Moved) → Ruling (sessionOf c .loaded) (sessionOf c) o (atRest c o) m
+            → Opens (done (m .answer) (madeBy (vectorOf (m .session) v)))
         by f m (refuses r g) = opens-not
         by f m (takes l w) = last f w (vectorOf (atRest c o) v) (vector-ruled (atRest c o) v)
 
-        go : (x : Bool) → fitting b (inputs c) (inputs c) ≡ x → Opens (cond x (done (restOf (sessionOf c) o .answer) (madeBy (vectorOf (restOf (sessionOf c) o .session) v))) broken)
+        go : (x : Bool) → fitting b (inputs c) (inputs c) ≡ x
+            → Opens (cond x (done (restOf (sessionOf c) o .answer) (madeBy (vectorOf (restOf (sessionOf c) o .session) v))) broken)
         go true f = by f (restOf (sessionOf c) o) (rest-ruled (sessionOf c) o)
         go false f = opens-not
 

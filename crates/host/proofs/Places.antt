@@ -33,12 +33,14 @@ clear-step b at to l =
 -- the test says that each of them is 0
 pub clear-at : (b : List ℕ) (at to : ℕ) → clear b at to ≡ true → (i : ℕ) → at ≤ i → i < to → getD b i 0 ≡ 0
 unfolding clear
-clear-at b at to e i l u = eqb-true (getD b i 0) 0 (every-at (λ i. eqb (getD b i 0) 0) (from at (to - at)) e i (in-from at (to - at) i l (omega arith)))
+clear-at b at to e i l u =
+    eqb-true (getD b i 0) 0 (every-at (λ i. eqb (getD b i 0) 0) (from at (to - at)) e i (in-from at (to - at) i l (omega arith)))
 
 pub clear-make : (b : List ℕ) (at to : ℕ) → ((i : ℕ) → at ≤ i → i < to → getD b i 0 ≡ 0) → clear b at to ≡ true
 unfolding clear
 clear-make b at to h =
-    every-yes (λ i. eqb (getD b i 0) 0) (from at (to - at)) (λ i m. let o = out-from at (to - at) i m in eq-eqb (getD b i 0) 0 (h i (o .0) (omega (arith, o .0, o .1))))
+    every-yes (λ i. eqb (getD b i 0) 0) (from at (to - at))
+    (λ i m. let o = out-from at (to - at) i m in eq-eqb (getD b i 0) 0 (h i (o .0) (omega (arith, o .0, o .1))))
 
 -- An area
 
@@ -84,13 +86,16 @@ pub area-more : (b : List ℕ) (at i : ℕ) (v : List ℕ) → at ≤ i → i < 
 unfolding area
 area-more b at i v l f = listed-set _ _ (length b) i _ f (rw (in-area at (i + 1) i l (omega arith))) other
   where
-    other : (j : ℕ) → j < length b → ¬ (j ≡ i) → cond (inside at (i + 1) j) (getD v (j - at) 0) (getD b j 0) ≡ cond (inside at i j) (getD v (j - at) 0) (getD b j 0)
+    other : (j : ℕ) → j < length b → ¬ (j ≡ i)
+        → cond (inside at (i + 1) j) (getD v (j - at) 0) (getD b j 0) ≡ cond (inside at i j) (getD v (j - at) 0) (getD b j 0)
     other j k n = go (ltb j i) refl
       where
-        same : ltb j (i + 1) ≡ ltb j i → cond (inside at (i + 1) j) (getD v (j - at) 0) (getD b j 0) ≡ cond (inside at i j) (getD v (j - at) 0) (getD b j 0)
+        same : ltb j (i + 1) ≡ ltb j i
+            → cond (inside at (i + 1) j) (getD v (j - at) 0) (getD b j 0) ≡ cond (inside at i j) (getD v (j - at) 0) (getD b j 0)
         same e = rw e
 
-        go : (x : Bool) → ltb j i ≡ x → cond (inside at (i + 1) j) (getD v (j - at) 0) (getD b j 0) ≡ cond (inside at i j) (getD v (j - at) 0) (getD b j 0)
+        go : (x : Bool) → ltb j i ≡ x
+            → cond (inside at (i + 1) j) (getD v (j - at) 0) (getD b j 0) ≡ cond (inside at i j) (getD v (j - at) 0) (getD b j 0)
         go true e = same (lt-ltb j (i + 1) (omega (arith, ltb-true j i e)) ∙ sym e)
         go false e = same (le-ltb j (i + 1) (omega (arith, ltb-false j i e)) ∙ sym e)
 
@@ -99,15 +104,18 @@ area-more b at i v l f = listed-set _ _ (length b) i _ f (rw (in-area at (i + 1)
 -- a part, entry by entry
 pub part-listed : (b : List ℕ) (at n : ℕ) → at + n ≤ length b → part b at n ≡ listed (λ i. getD b (at + i) 0) n
 part-listed b at n f =
-    is-listed (λ i. getD b (at + i) 0) n 0 (part b at n) (length-take-le n (drop at b) (rw (length-drop at b) (omega arith))) (λ i l. getD-take n (drop at b) i 0 l ∙ getD-drop at b i 0)
+    is-listed (λ i. getD b (at + i) 0) n 0 (part b at n) (length-take-le n (drop at b) (rw (length-drop at b) (omega arith)))
+    (λ i l. getD-take n (drop at b) i 0 l ∙ getD-drop at b i 0)
 
 -- parts with the same entries
-pub part-same : (b x : List ℕ) (at from n : ℕ) → at + n ≤ length b → from + n ≤ length x → ((i : ℕ) → i < n → getD b (at + i) 0 ≡ getD x (from + i) 0) → part b at n ≡ part x from n
-part-same b x at from n f g h =
-    part-listed b at n f ∙ listed-ext (λ i. getD b (at + i) 0) (λ i. getD x (from + i) 0) n h ∙ sym (part-listed x from n g)
+pub part-same : (b x : List ℕ) (at to n : ℕ) → at + n ≤ length b → to + n ≤ length x → ((i : ℕ) → i < n → getD b (at + i) 0 ≡ getD x (to + i) 0)
+    → part b at n ≡ part x to n
+part-same b x at to n f g h =
+    part-listed b at n f ∙ listed-ext (λ i. getD b (at + i) 0) (λ i. getD x (to + i) 0) n h ∙ sym (part-listed x to n g)
 
 -- a part that has the entries of a whole list
-pub part-whole : (b v : List ℕ) (at : ℕ) → at + length v ≤ length b → ((i : ℕ) → i < length v → getD b (at + i) 0 ≡ getD v i 0) → part b at (length v) ≡ v
+pub part-whole : (b v : List ℕ) (at : ℕ) → at + length v ≤ length b → ((i : ℕ) → i < length v → getD b (at + i) 0 ≡ getD v i 0)
+    → part b at (length v) ≡ v
 part-whole b v at f h = part-listed b at (length v) f ∙ listed-ext (λ i. getD b (at + i) 0) (λ i. getD v i 0) (length v) h ∙ sym (listed-self v 0)
 
 -- an area of bytes within bytes

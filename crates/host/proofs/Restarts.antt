@@ -21,7 +21,8 @@ use Rattle.session.proofs.Settling.{settled-from}
 module _ (s : Session) (h : HasCard s) (x y : ℕ → Bool) where
   flat-ends : (n : ℕ) → n < 256 → ends (restedBy s y) n ≡ settled (cardOf s) y n
   unfolding ends restedBy
-  flat-ends n l = ap (λ w. bit w 63) (listed-at (λ n. wordOf 64 (λ t. settled (cardOf s) y n)) 256 n 0 l) ∙ bit-word 64 (λ t. settled (cardOf s) y n) 63 (lit< tt)
+  flat-ends n l =
+      ap (λ w. bit w 63) (listed-at (λ n. wordOf 64 (λ t. settled (cardOf s) y n)) 256 n 0 l) ∙ bit-word 64 (λ t. settled (cardOf s) y n) 63 (lit< tt)
 
   flat-past : (n : ℕ) → 256 ≤ n → ends (restedBy s y) n ≡ bit 0 63
   unfolding ends restedBy
@@ -45,4 +46,6 @@ module _ (s : Session) (h : HasCard s) (x y : ℕ → Bool) where
   -- after two vectors the first is forgotten
   pub moved-again : (z : ℕ → Bool) → movedBy (movedBy (restedBy s x) y) z ≡ movedBy (restedBy s y) z
   unfolding movedBy restedBy cardOf
-  moved-again z = let e : ends (movedBy (restedBy s x) y) ≡ ends (restedBy s y) = λ i n. same-ends n i in ap (λ f. resting s true (listed f 256) (histories (cardOf s) f z)) e
+  moved-again z =
+      let e : ends (movedBy (restedBy s x) y) ≡ ends (restedBy s y) = λ i n. same-ends n i in
+      ap (λ f. resting s true (listed f 256) (histories (cardOf s) f z)) e

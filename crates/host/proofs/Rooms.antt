@@ -1,5 +1,5 @@
 -- What stands where in the bytes that a call leaves. Assumes nothing.
-use mathlib.Core.Path.{_≡_, refl, sym, ap, ap₂, _∙_}
+use mathlib.Core.Path.{_≡_, refl, ap, ap₂, _∙_}
 use mathlib.Core.Bool.{true}
 use mathlib.Core.List.{List, [], _∷_}
 use mathlib.Core.Logic.{_⊎_, inl, inr}
@@ -52,7 +52,8 @@ module _ (b v : List ℕ) (long : 5895 ≤ length b) where
   card-head i l =
       let e = emptied-long in
       let h = headed-long in
-      area-out emptied 515 5895 v i (inl (omega arith)) (omega arith) ∙ area-out headed 3 515 (0 ∷ []) i (inl l) (omega arith) ∙ area-in b 0 3 head i (omega arith) (omega arith) l
+      area-out emptied 515 5895 v i (inl (omega arith)) (omega arith) ∙ area-out headed 3 515 (0 ∷ []) i (inl l) (omega arith)
+      ∙ area-in b 0 3 head i (omega arith) (omega arith) l
 
   card-none : (i : ℕ) → 3 ≤ i → i < 515 → getD (keptCard b v) i 0 ≡ 0
   unfolding keptCard
@@ -71,7 +72,8 @@ module _ (b v : List ℕ) (long : 5895 ≤ length b) where
   pub card-fitting : fitting (keptCard b v) 0 0 ≡ true
   card-fitting =
       and-make (clear (keptCard b v) 3 259) (clear (keptCard b v) 259 515)
-      (clear-make (keptCard b v) 3 259 (λ i l u. card-none i l (omega arith))) (clear-make (keptCard b v) 259 515 (λ i l u. card-none i (omega arith) u))
+      (clear-make (keptCard b v) 3 259 (λ i l u. card-none i l (omega arith)))
+      (clear-make (keptCard b v) 259 515 (λ i l u. card-none i (omega arith) u))
 
   module _ (fits : length v ≤ 5380) where
     pub card-length : u16At (keptCard b v) 1 ≡ length v
@@ -79,8 +81,7 @@ module _ (b v : List ℕ) (long : 5895 ≤ length b) where
     card-length =
         let x : getD (keptCard b v) 1 0 ≡ length v % 256 = card-head 1 (lit< tt) in
         let y : getD (keptCard b v) 2 0 ≡ length v / 256 % 256 = card-head 2 (lit< tt) in
-        let z : getD (keptCard b v) 1 0 + 256 * getD (keptCard b v) 2 0 ≡ length v % 256 + 256 * (length v / 256 % 256) = ap₂ (λ p q. p + 256 * q) x y in
-        z ∙ omega arith
+        omega arith
 
     pub card-clear : clear (keptCard b v) (515 + length v) 5895 ≡ true
     card-clear =
@@ -150,7 +151,8 @@ module _ (b : List ℕ) (k : ℕ) (o v : List ℕ) where
         let e = older-long in
         let h = stated-long in
         let m : 3 + i - 3 ≡ i = omega arith in
-        area-out older 259 515 v (3 + i) (inl (omega arith)) (omega arith) ∙ area-in stated 3 259 o (3 + i) (omega arith) (omega arith) (omega arith) ∙ ap (λ j. getD o j 0) m
+        area-out older 259 515 v (3 + i) (inl (omega arith)) (omega arith) ∙ area-in stated 3 259 o (3 + i) (omega arith) (omega arith) (omega arith)
+        ∙ ap (λ j. getD o j 0) m
 
     pub rooms-last : (i : ℕ) → i < 256 → getD rooms (259 + i) 0 ≡ getD v i 0
     rooms-last i l =
@@ -161,9 +163,12 @@ module _ (b : List ℕ) (k : ℕ) (o v : List ℕ) where
     pub rooms-fit : (m n : ℕ) → ((i : ℕ) → m ≤ i → i < 256 → getD o i 0 ≡ 0) → ((i : ℕ) → n ≤ i → i < 256 → getD v i 0 ≡ 0) → fitting rooms m n ≡ true
     rooms-fit m n p q =
         and-make (clear rooms (3 + m) 259) (clear rooms (259 + n) 515)
-        (clear-make rooms (3 + m) 259 (λ i l u. let e : 3 + (i - 3) ≡ i = omega arith in ap (λ j. getD rooms j 0) (sym e) ∙ rooms-older (i - 3) (omega arith) ∙ p (i - 3) (omega arith) (omega arith)))
+        (clear-make rooms (3 + m) 259 (λ i l u. at 3 i (omega arith) ∙ rooms-older (i - 3) (omega arith) ∙ p (i - 3) (omega arith) (omega arith)))
         (clear-make rooms (259 + n) 515
-        (λ i l u. let e : 259 + (i - 259) ≡ i = omega arith in ap (λ j. getD rooms j 0) (sym e) ∙ rooms-last (i - 259) (omega arith) ∙ q (i - 259) (omega arith) (omega arith)))
+        (λ i l u. at 259 i (omega arith) ∙ rooms-last (i - 259) (omega arith) ∙ q (i - 259) (omega arith) (omega arith)))
+      where
+        at : (a i : ℕ) → a ≤ i → getD rooms i 0 ≡ getD rooms (a + (i - a)) 0
+        at a i l = let e : i ≡ a + (i - a) = omega arith in ap (λ j. getD rooms j 0) e
 
     -- the last room's part is the vector
     pub rooms-given : length v ≤ 256 → part rooms 259 (length v) ≡ v
@@ -181,7 +186,8 @@ vector-rooms b v = refl
 pub room-moved : (b v : List ℕ) → 5895 ≤ length b → (n : ℕ) → n ≤ 256 → part (rooms b 3 (lastRoom b) v) 3 n ≡ part b 259 n
 room-moved b v long n f =
     let r = rooms-long b 3 (lastRoom b) v long in
-    part-same (rooms b 3 (lastRoom b) v) b 3 259 n (omega arith) (omega arith) (λ i l. rooms-older b 3 (lastRoom b) v long i (omega arith) ∙ room-at b i (omega arith))
+    part-same (rooms b 3 (lastRoom b) v) b 3 259 n (omega arith) (omega arith)
+    (λ i l. rooms-older b 3 (lastRoom b) v long i (omega arith) ∙ room-at b i (omega arith))
 
 pub room-ends : (b : List ℕ) (n : ℕ) → clear b (259 + n) 515 ≡ true → (i : ℕ) → n ≤ i → i < 256 → getD (lastRoom b) i 0 ≡ 0
 room-ends b n e i l u = room-at b i u ∙ clear-at b (259 + n) 515 e (259 + i) (omega arith) (omega arith)
