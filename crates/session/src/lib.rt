@@ -42,7 +42,7 @@ pub struct Inputs {
 }
 
 // Whether every byte is 0 or 1.
-fn bytes_fit(v: &[u8]) -> bool
+pub fn bytes_fit(v: &[u8]) -> bool
     ensures { λ r. ⌜ r ≡ every byteFits (now (v .entry)) ⌝ }
 {
     let mut i: usize = 0;

@@ -1,0 +1,128 @@
+-- The bytes that a call leaves, when it was done, hold the session that the operation left. Assumes nothing.
+use mathlib.Core.Path.{_≡_, sym, ap, subst, _∙_}
+use mathlib.Core.Bool.{true, false≢true}
+use mathlib.Core.List.{List, [], _∷_}
+use Prim.Native.Nat.{ℕ, _+_, _≤_}
+use native.Mathlib.Omega.{arith}
+use lib.Dec.{lit<}
+use lib.ListN.{length, getD, List·getD-eq-default}
+use Rattle.lists.proofs.Bools.{and-both}
+use Rattle.rule.specs.Net.{Net}
+use Rattle.records.specs.Bytes.{u16At}
+use Rattle.records.specs.Written.{Bytes}
+use Rattle.card.specs.declared.Session.{Session}
+use Rattle.card.specs.Session.{none, sessionOf, cardOf}
+use Rattle.card.specs.Allowed.{Allowed}
+use Rattle.card.proofs.Kept.{session-holds}
+use Rattle.session.specs.Inputs.{given}
+use Rattle.session.specs.Moves.{movedBy, restedBy}
+use Rattle.session.specs.Allowed.{Vector}
+use Rattle.host.specs.Places.{part, clear, lastRoom}
+use Rattle.host.specs.Calls.{keptCard, keptRest, keptVector}
+use Rattle.host.specs.Following.{Holding}
+use Rattle.host.proofs.Places.{room-bytes, one-byte, zero-byte}
+use Rattle.host.proofs.Making.{inputs-few}
+use Rattle.host.proofs.Rooms.{card-long, card-bytes, card-state, card-fitting, card-length, card-clear, card-part, rooms, rooms-long, rooms-bytes, rooms-state, rooms-length, rooms-clear, rooms-card, rooms-fit, rooms-given, room-moved, room-ends}
+use Rattle.host.proofs.Sizes.{card-size}
+use Rattle.host.proofs.Restarts.{moved-again}
+use Rattle.host.proofs.Opened.{Carried, inputs, values, atRest, afterBoth, Kept, keeps-none, keeps-card, keeps-rest, keeps-moved, closed}
+
+module _ (b v : List ℕ) (long : 5895 ≤ length b) (bytes : Bytes b) (given-bytes : Bytes v) where
+  -- A card that was just loaded
+
+  loaded-kept : (a : Allowed v) → Kept (keptCard b v) (sessionOf (a .card))
+  loaded-kept a =
+      let fits : length v ≤ 5380 = subst (λ x. length x ≤ 5380) (sym (a .bytes)) (card-size (a .card) (a .accepted .legible)) in
+      let e = card-length b v long fits in
+      keeps-card (a .card)
+      (record {
+        low = subst (λ n. n ≤ 5380) (sym e) fits;
+        empty = subst (λ n. clear (keptCard b v) (515 + n) 5895 ≡ true) (sym e) (card-clear b v long fits);
+        bytes = ap (part (keptCard b v) 515) e ∙ card-part b v long fits ∙ a .bytes;
+        accepted = a .accepted;
+      })
+      (card-state b v long) (card-fitting b v long)
+
+  pub load-holds : (a : Allowed v) → Holding (keptCard b v) (sessionOf (a .card))
+  load-holds a =
+      let h = card-bytes b v long bytes given-bytes in
+      record { room = card-long b v long; bytes = h; made = closed (keptCard b v) h (sessionOf (a .card)) (loaded-kept a) }
+
+  -- The card stays where the state and the vectors are written
+
+  carried-on : (k : ℕ) (o : List ℕ) (c : List Net) → Carried b c → Carried (rooms b k o v) c
+  carried-on k o c d =
+      let e = rooms-length b k o v long in
+      let clean = rooms-clear b k o v long (515 + u16At b 1) (omega arith) (d .empty) in
+      record {
+        low = subst (λ n. n ≤ 5380) (sym e) (d .low);
+        empty = subst (λ n. clear (rooms b k o v) (515 + n) 5895 ≡ true) (sym e) clean;
+        bytes = ap (part (rooms b k o v) 515) e ∙ rooms-card b k o v long (u16At b 1) (d .low) ∙ d .bytes;
+        accepted = d .accepted;
+      }
+
+  module _ (c : List Net) (d : Carried b c) (w : Vector (inputs c) v) where
+    few : length v ≤ 256
+    few = subst (λ n. n ≤ 256) (sym (w .size)) (inputs-few c (d .accepted))
+
+    past : (i : ℕ) → inputs c ≤ i → getD v i 0 ≡ 0
+    past i l = List·getD-eq-default v 0 {n = i} (omega (arith, w .size))
+
+    as-given : (k : ℕ) (o : List ℕ) → part (rooms b k o v) 259 (inputs c) ≡ v
+    as-given k o = ap (part (rooms b k o v) 259) (sym (w .size)) ∙ rooms-given b k o v long few
+
+    -- A card that was just rested
+
+    rested-kept : Kept (rooms b 2 (0 ∷ []) v) (atRest c v)
+    rested-kept =
+        let e = as-given 2 (0 ∷ []) in
+        subst (λ x. Kept (rooms b 2 (0 ∷ []) v) (atRest c x)) e
+        (keeps-rest c (carried-on 2 (0 ∷ []) c d) (rooms-state b 2 (0 ∷ []) v long)
+        (rooms-fit b 2 (0 ∷ []) v long 0 (inputs c) (λ i l u. zero-byte i) (λ i l u. past i l)) (subst (Vector (inputs c)) (sym e) w))
+
+    -- A card at rest that a vector just moved
+
+    moved-kept : clear b (259 + inputs c) 515 ≡ true → Vector (inputs c) (part b 259 (inputs c))
+        → Kept (rooms b 3 (lastRoom b) v) (afterBoth c (part b 259 (inputs c)) v)
+    moved-kept f u =
+        let e = as-given 3 (lastRoom b) in
+        let m = room-moved b v long (inputs c) (inputs-few c (d .accepted)) in
+        subst (λ x. Kept (rooms b 3 (lastRoom b) v) (afterBoth c x v)) m
+        (subst (λ x. Kept (rooms b 3 (lastRoom b) v) (afterBoth c (part (rooms b 3 (lastRoom b) v) 3 (inputs c)) x)) e
+        (keeps-moved c (carried-on 3 (lastRoom b) c d) (rooms-state b 3 (lastRoom b) v long)
+        (rooms-fit b 3 (lastRoom b) v long (inputs c) (inputs c) (room-ends b (inputs c) f) (λ i l u. past i l))
+        (subst (Vector (inputs c)) (sym m) u) (subst (Vector (inputs c)) (sym e) w)))
+
+  -- whatever the session was
+
+  rest-kept : (s : Session) → Kept b s → s .loaded ≡ true → Vector (s .inputs) v → Kept (rooms b 2 (0 ∷ []) v) (restedBy s (given (s .kinds) v))
+  unfolding none restedBy movedBy cardOf
+  rest-kept s (keeps-none z e) l w = absurd (false≢true l)
+  rest-kept s (keeps-card c d z f) l w = rested-kept c d w
+  rest-kept s (keeps-rest c d z f u) l w = rested-kept c d w
+  rest-kept s (keeps-moved c d z f u t) l w = rested-kept c d w
+
+  vector-kept : (s : Session) → Kept b s → s .rested ≡ true → Vector (s .inputs) v → Kept (rooms b 3 (lastRoom b) v) (movedBy s (given (s .kinds) v))
+  unfolding none sessionOf restedBy movedBy
+  vector-kept s (keeps-none z e) l w = absurd (false≢true l)
+  vector-kept s (keeps-card c d z f) l w = absurd (false≢true l)
+  vector-kept s (keeps-rest c d z f u) l w = moved-kept c d w (and-both (clear b 3 259) (clear b (259 + inputs c) 515) f .1) u
+  vector-kept s (keeps-moved c d z f u t) l w =
+      let o = values c (part b 3 (inputs c)) in
+      let last = values c (part b 259 (inputs c)) in
+      subst (Kept (rooms b 3 (lastRoom b) v)) (sym (moved-again (sessionOf c) (session-holds c (d .accepted)) o last (values c v)))
+      (moved-kept c d w (and-both (clear b (3 + inputs c) 259) (clear b (259 + inputs c) 515) f .1) t)
+
+  pub rest-holds : (s : Session) → Kept b s → s .loaded ≡ true → Vector (s .inputs) v → Holding (keptRest b v) (restedBy s (given (s .kinds) v))
+  unfolding keptRest
+  rest-holds s k l w =
+      let o : List ℕ = 0 ∷ [] in
+      let h = rooms-bytes b 2 o v long bytes (lit< tt) (one-byte 0 (lit< tt)) given-bytes in
+      record { room = rooms-long b 2 o v long; bytes = h; made = closed (rooms b 2 o v) h (restedBy s (given (s .kinds) v)) (rest-kept s k l w) }
+
+  pub vector-holds : (s : Session) → Kept b s → s .rested ≡ true → Vector (s .inputs) v → Holding (keptVector b v) (movedBy s (given (s .kinds) v))
+  unfolding keptVector
+  vector-holds s k l w =
+      let o = lastRoom b in
+      let h = rooms-bytes b 3 o v long bytes (lit< tt) (room-bytes b bytes) given-bytes in
+      record { room = rooms-long b 3 o v long; bytes = h; made = closed (rooms b 3 o v) h (movedBy s (given (s .kinds) v)) (vector-kept s k l w) }

@@ -1,0 +1,10 @@
+pub mod Places
+pub mod Making
+pub mod Answering
+pub mod Many
+pub mod Rooms
+pub mod Sizes
+pub mod Restarts
+pub mod Opened
+pub mod Leaving
+pub mod Following

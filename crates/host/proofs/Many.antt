@@ -1,0 +1,151 @@
+-- Many vectors, one after another: the places of their bytes and words, and one vector more. Assumes nothing.
+use mathlib.Core.Path.{_≡_, refl, sym, ap, ap₂, _∙_}
+use mathlib.Core.Bool.{Bool, true, false, cond}
+use mathlib.Core.List.{List}
+use Prim.Native.Nat.{ℕ, zero, suc, _+_, _-_, _*_, _/_, _%_, _<_, _≤_}
+use native.Mathlib.Nat.{suc-mul, mul-le-mul-right, le-div-iff-mul-le, div-lt-iff-lt-mul}
+use native.Mathlib.Omega.{arith}
+use lib.Dec.{eqb, leb}
+use lib.ListN.{length}
+use borrow.Author.Tests.{eq-eqb, ne-eqb, eqb-false, lt-ltb, le-ltb, lt-leb, le-leb, leb-true}
+use Rattle.lists.specs.Entries.{every}
+use Rattle.rule.specs.declared.Refusal.{Refusal}
+use Rattle.rule.specs.declared.Refusal.the-variants.{NotReady, VectorLength, VectorByte, NoRoom}
+use Rattle.rule.specs.declared.Answer.{Answer}
+use Rattle.rule.specs.declared.Answer.the-variants.{Done, Refused}
+use Rattle.card.specs.declared.Session.{Session}
+use Rattle.card.specs.Session.{inputsOf, cardOf}
+use Rattle.card.specs.Allowed.{Fed}
+use Rattle.card.specs.Held.{HasCard}
+use Rattle.card.proofs.Kept.{nets-are, inputs-are}
+use Rattle.card.proofs.Tests.{tells-false, fed-tells}
+use Rattle.session.specs.Inputs.{byteFits}
+use Rattle.session.specs.Moves.{vectorOf}
+use Rattle.host.specs.Places.{part, area}
+use Rattle.host.specs.Made.{madeAgain}
+use Rattle.host.specs.Calls.{packed}
+use Rattle.host.specs.Many.{Ran, manyRun, manyJudged, keptAt, keptMany, Shown, manyDone, hostVectors}
+use Rattle.host.proofs.Places.{length-area}
+
+pub turn-next : (j n : ℕ) → j * n + n ≡ (j + 1) * n
+turn-next j n = let e : j + 1 ≡ suc j = omega arith in sym (ap (λ k. k * n) e ∙ suc-mul j n)
+
+pub turn-fits : (j k n l : ℕ) → j < k → k * n ≤ l → j * n + n ≤ l
+turn-fits j k n l b h =
+    let more : (j + 1) * n ≤ k * n = mul-le-mul-right n (omega arith) in
+    omega (arith, more, turn-next j n, h)
+
+-- one vector more
+pub many-more : (s : Session) (vs : List ℕ) (n j : ℕ) (room : List ℕ)
+    → manyRun s vs n (j + 1) room
+    ≡ (let ran = manyRun s vs n j room in
+    let next = vectorOf (ran .session) (part vs (j * n) n) .session in
+    record { session = next; words = area (ran .words) (j * s .nets) (j * s .nets + s .nets) (next .words) })
+unfolding manyRun
+many-more s vs n j room = let e : j + 1 ≡ suc j = omega arith in ap (λ k. manyRun s vs n k room) e ∙ step
+  where
+    step : manyRun s vs n (suc j) room
+        ≡ (let ran = manyRun s vs n j room in
+        let next = vectorOf (ran .session) (part vs (j * n) n) .session in
+        record { session = next; words = area (ran .words) (j * s .nets) (j * s .nets + s .nets) (next .words) })
+    step = refl
+
+pub many-length : (s : Session) (vs : List ℕ) (n k : ℕ) (room : List ℕ) → length (manyRun s vs n k room .words) ≡ length room
+unfolding manyRun
+many-length s vs n zero room = refl
+many-length s vs n (suc k) room = length-area _ _ _ _ ∙ many-length s vs n k room
+
+-- What is kept
+
+pub kept-none : (b vs : List ℕ) (n k : ℕ) → k ≡ 0 → b ≡ keptMany b vs n k
+unfolding keptMany
+kept-none b vs n k e = ap (keptMany b vs n) (sym e)
+
+pub kept-one : (b vs : List ℕ) (n k : ℕ) → k ≡ 1 → keptAt b vs n 0 ≡ keptMany b vs n k
+unfolding keptMany
+kept-one b vs n k e = ap (keptMany b vs n) (sym e)
+
+pub kept-two : (b vs : List ℕ) (n k : ℕ) → ¬ (k ≡ 0) → ¬ (k ≡ 1) → keptAt (keptAt b vs n (k - 2)) vs n (k - 1) ≡ keptMany b vs n k
+unfolding keptMany
+kept-two b vs n zero x y = absurd (x refl)
+kept-two b vs n (suc zero) x y = absurd (y refl)
+kept-two b vs n (suc (suc k)) x y =
+    let two : suc (suc k) - 2 ≡ k = omega arith in
+    let one : suc (suc k) - 1 ≡ suc k = omega arith in
+    ap₂ (λ i j. keptAt (keptAt b vs n i) vs n j) two one
+
+-- The judgement
+
+pub inputs-some : (s : Session) → HasCard s → (0 < s .inputs) × (0 < s .nets)
+inputs-some s h =
+    let c = cardOf s in
+    let fed = h .accepted .fed in
+    let some = tells-false (eqb (inputsOf c) 0) (¬ Fed c) (fed-tells c) (λ n. n fed) in
+    let more : ¬ (inputsOf c ≡ 0) = eqb-false (inputsOf c) 0 some in
+    (omega (arith, inputs-are s h, more), omega (arith, nets-are s h, fed .1))
+
+module _ (s : Session) (vs : List ℕ) (room : ℕ) where
+  abbrev count : ℕ
+  count = length vs / s .inputs
+
+  pub many-12 : s .rested ≡ false → Refused NotReady ≡ manyJudged s vs room
+  unfolding manyJudged
+  many-12 e = rw e
+
+  pub many-10 : s .rested ≡ true → ¬ (length vs % s .inputs ≡ 0) → Refused VectorLength ≡ manyJudged s vs room
+  unfolding manyJudged
+  many-10 e n = rw (e, ne-eqb (length vs % s .inputs) 0 n)
+
+  pub many-11 : s .rested ≡ true → length vs % s .inputs ≡ 0 → every byteFits vs ≡ false → Refused VectorByte ≡ manyJudged s vs room
+  unfolding manyJudged
+  many-11 e z f = rw (e, eq-eqb (length vs % s .inputs) 0 z, f)
+
+  pub many-18 : s .rested ≡ true → length vs % s .inputs ≡ 0 → every byteFits vs ≡ true → 0 < s .nets → room / s .nets < count → Refused NoRoom ≡ manyJudged s vs room
+  unfolding manyJudged
+  many-18 e z f p l =
+      let much : room < count * s .nets = div-lt-iff-lt-mul p .0 l in
+      rw (e, eq-eqb (length vs % s .inputs) 0 z, f, lt-leb (count * s .nets) room much)
+
+  pub many-0 : s .rested ≡ true → length vs % s .inputs ≡ 0 → every byteFits vs ≡ true → 0 < s .nets → count ≤ room / s .nets → Done count ≡ manyJudged s vs room
+  unfolding manyJudged
+  many-0 e z f p l =
+      let fits : count * s .nets ≤ room = le-div-iff-mul-le p .0 l in
+      rw (e, eq-eqb (length vs % s .inputs) 0 z, f, le-leb (count * s .nets) room fits)
+
+  -- what a judgement that is done says
+  pub many-asks : (k : ℕ) → manyJudged s vs room ≡ Done k → (s .rested ≡ true) × (k ≡ count) × (k * s .nets ≤ room)
+  unfolding manyJudged
+  many-asks k e = go (s .rested) refl (eqb (length vs % s .inputs) 0) (every byteFits vs) (leb (count * s .nets) room) refl e
+    where
+      go : (x : Bool) → s .rested ≡ x → (y z w : Bool) → leb (count * s .nets) room ≡ w
+          → cond x (cond y (cond z (cond w (Done count) (Refused NoRoom)) (Refused VectorByte)) (Refused VectorLength)) (Refused NotReady) ≡ Done k
+          → (s .rested ≡ true) × (k ≡ count) × (k * s .nets ≤ room)
+      go true r true true true q d = let h : k ≡ count = cc in (r, h, rw h (leb-true (count * s .nets) room q))
+      go true r true true false q d = let z : _≡_ {A = ℕ} 0 1 = cc in absurd (omega arith)
+      go true r true false w q d = let z : _≡_ {A = ℕ} 0 1 = cc in absurd (omega arith)
+      go true r false z w q d = let z : _≡_ {A = ℕ} 0 1 = cc in absurd (omega arith)
+      go false r y z w q d = let z : _≡_ {A = ℕ} 0 1 = cc in absurd (omega arith)
+
+-- Whole calls
+
+module _ (s : Session) (b vs room : List ℕ) where
+  pub done-refused : (a : Answer) (why : Refusal) (r : ℕ) → a ≡ Refused why → r ≡ packed a → record { answer = r; bytes = b; words = room } ≡ manyDone s b vs room a
+  done-refused a why r e q = ap (λ x. record { answer = x; bytes = b; words = room }) (q ∙ ap packed e) ∙ sym (ap (manyDone s b vs room) e)
+
+  pub done-all : (a : Answer) (k : ℕ) (b' room' : List ℕ) → a ≡ Done k → b' ≡ keptMany b vs (s .inputs) k → room' ≡ manyRun s vs (s .inputs) k room .words
+      → record { answer = 0; bytes = b'; words = room' } ≡ manyDone s b vs room a
+  done-all a k b' room' e p q = (λ i. record { answer = 0; bytes = p i; words = q i }) ∙ sym (ap (manyDone s b vs room) e)
+
+module _ (b vs room : List ℕ) where
+  pub vectors-short : (r : ℕ) → length b < 5895 → r ≡ packed (Refused NoRoom) → record { answer = r; bytes = b; words = room } ≡ hostVectors b vs room
+  unfolding hostVectors
+  vectors-short r l q = rw (lt-ltb (length b) 5895 l) (ap (λ x. record { answer = x; bytes = b; words = room }) q)
+
+  pub vectors-broken : (r : ℕ) → 5895 ≤ length b → madeAgain b .whole ≡ false → r ≡ packed (Refused NotReady) → record { answer = r; bytes = b; words = room } ≡ hostVectors b vs room
+  unfolding hostVectors
+  vectors-broken r l e q = rw (le-ltb (length b) 5895 l, e) (ap (λ x. record { answer = x; bytes = b; words = room }) q)
+
+  pub vectors-done : 5895 ≤ length b → madeAgain b .whole ≡ true
+      → (let s = madeAgain b .session in manyDone s b vs room (manyJudged s vs (length room))) ≡ hostVectors b vs room
+  unfolding hostVectors
+  vectors-done l e = rw (le-ltb (length b) 5895 l, e)

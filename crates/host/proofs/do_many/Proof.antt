@@ -1,0 +1,83 @@
+-- `host::do_many` meets its contract: all of the vectors, or none. Assumes nothing.
+use mathlib.Core.Path.{sym, ap, _∙_}
+use native.Mathlib.Nat.{le-of-eq, le-div-iff-mul-le}
+use native.Mathlib.Omega.{arith}
+use lib.ListN.{length}
+use Rattle.card.proofs.Kept.{nets-are}
+use Rattle.host.specs.Many.{manyDone}
+use Rattle.host.proofs.Many.{inputs-some, many-asks, done-refused, done-all}
+use borrow.Author.Needs.{needs}
+use Rattle.host.proofs.do_many.Statement.{statement}
+use Rattle.host.proofs.do_many.Tie as tie
+
+judge-many-requires : tie.Need-judge-many-requires
+judge-many-requires c κs = search needs
+
+enum-told : tie.Need-enum-told
+enum-told c = search needs
+
+pack-requires : tie.Need-pack-requires
+pack-requires c κs = search needs
+
+enum-known-verdict : tie.Need-enum-known-verdict
+enum-known-verdict c = search needs
+
+run-many-requires : tie.Need-run-many-requires
+run-many-requires c κs =
+    let v = c .before .before in
+    let j = v .before .before in
+    let start = j .before .before .before .before in
+    let a = start .args in
+    let asks = many-asks (a .s) (a .vectors .now) (length (a .words .now)) _ (sym (j .judge-many .ensures) ∙ v .verdict .given .1) in
+    let h = start .pre .0 .card (start .pre .0 .rest (asks .0) .0) in
+    let bytes = le-div-iff-mul-le (inputs-some (a .s) h .0) .0 (le-of-eq (asks .1)) in
+    (start .pre .0, (bytes, omega (arith, nets-are (a .s) h, h .accepted .legible .few), asks .2))
+
+keep-many-requires : tie.Need-keep-many-requires
+keep-many-requires c κs =
+    let v = c .before .before .before .before .before .before in
+    let j = v .before .before in
+    let start = j .before .before .before .before in
+    let a = start .args in
+    let asks = many-asks (a .s) (a .vectors .now) (length (a .words .now)) _ (sym (j .judge-many .ensures) ∙ v .verdict .given .1) in
+    let h = start .pre .0 .card (start .pre .0 .rest (asks .0) .0) in
+    let bytes = le-div-iff-mul-le (inputs-some (a .s) h .0) .0 (le-of-eq (asks .1)) in
+    (start .pre .1, bytes)
+
+returns : tie.Need-returns
+returns c =
+    let j = c .before .before .before in
+    let a = j .before .before .before .before .args in
+    done-refused (a .s) (a .b .now) (a .vectors .now) (a .words .now) (j .judge-many .result) _ (c .pack .result) (c .before .enum-told .given .1) (c .pack .ensures)
+    ∙ ap (manyDone (a .s) (a .b .now) (a .vectors .now) (a .words .now)) (j .judge-many .ensures)
+
+same-length : tie.Need-same-length
+same-length c = search needs
+
+same-length-2 : tie.Need-same-length-2
+same-length-2 c = search needs
+
+returns-2 : tie.Need-returns-2
+returns-2 c =
+    let km = c .before .before in
+    let rm = km .before .before .before .before in
+    let v = rm .before .before .before in
+    let j = v .before .before in
+    let a = j .before .before .before .before .args in
+    done-all (a .s) (a .b .now) (a .vectors .now) (a .words .now) (j .judge-many .result) _ _ _ (v .verdict .given .1) (km .keep-many .ensures) (rm .run-many .ensures)
+    ∙ ap (manyDone (a .s) (a .b .now) (a .vectors .now) (a .words .now)) (j .judge-many .ensures)
+
+pub do-many-spec : {M : Type 1} → statement M
+do-many-spec =
+    tie.close
+    (tie.spec
+    judge-many-requires
+    enum-told
+    pack-requires
+    enum-known-verdict
+    run-many-requires
+    keep-many-requires
+    returns
+    same-length
+    same-length-2
+    returns-2)

@@ -1,0 +1,80 @@
+-- The host's calls: what each answers and leaves, for any bytes. Assumes nothing.
+use mathlib.Core.Bool.{cond}
+use mathlib.Core.List.{List, [], _∷_}
+use Prim.Native.Nat.{ℕ, _+_, _*_, _/_, _%_}
+use lib.Dec.{ltb}
+use lib.ListN.{length}
+use Rattle.rule.specs.declared.Refusal.the-variants.{NotReady, NoRoom}
+use Rattle.rule.specs.declared.Answer.{Answer}
+use Rattle.rule.specs.declared.Answer.the-variants.{Done, Refused}
+use Rattle.rule.specs.Numbers.{answerNumber, answerCount}
+use Rattle.card.specs.declared.Session.{Session}
+use Rattle.card.specs.Load.{loadOf}
+use Rattle.session.specs.declared.Moved.{Moved}
+use Rattle.session.specs.Moves.{restOf, vectorOf}
+use Rattle.history.specs.Told.{historyOf}
+use Rattle.steps.specs.Vector.{stepsVectorOf}
+use Rattle.host.specs.declared.Move.{Move}
+use Rattle.host.specs.declared.Move.the-variants.{Load, Rest, Vector, Steps}
+use Rattle.host.specs.Places.{area, lastRoom}
+use Rattle.host.specs.Made.{madeAgain}
+
+-- an answer as one number: the paper's number, and 256 times the count
+unfoldable pub packed : Answer → ℕ
+packed a = answerNumber a + 256 * (answerCount a % 65536)
+
+abbrev pub loadMove : Session → List ℕ → Moved
+loadMove s bytes = let l = loadOf s bytes in record { answer = l .answer; session = l .session }
+
+-- the library's own operations
+abbrev pub operated : Move → Session → List ℕ → Moved
+operated Load s v = loadMove s v
+operated Rest s v = restOf s v
+operated Vector s v = vectorOf s v
+operated Steps s v = stepsVectorOf s v
+
+-- what is kept of a session that was just loaded, rested, or moved by a vector
+unfoldable pub keptCard : List ℕ → List ℕ → List ℕ
+keptCard b card = area (area (area b 0 3 (1 ∷ length card % 256 ∷ length card / 256 % 256 ∷ [])) 3 515 (0 ∷ [])) 515 5895 card
+
+unfoldable pub keptRest : List ℕ → List ℕ → List ℕ
+keptRest b v = area (area (area b 0 1 (2 ∷ [])) 3 259 (0 ∷ [])) 259 515 v
+
+unfoldable pub keptVector : List ℕ → List ℕ → List ℕ
+keptVector b v = area (area (area b 0 1 (3 ∷ [])) 3 259 (lastRoom b)) 259 515 v
+
+abbrev pub keptBy : Move → List ℕ → List ℕ → List ℕ
+keptBy Load b v = keptCard b v
+keptBy Rest b v = keptRest b v
+keptBy Vector b v = keptVector b v
+keptBy Steps b v = keptVector b v
+
+-- what a call answers, and the lent bytes after it
+pub record Hosted : Type 0 where
+  pub answer : ℕ
+  pub bytes : List ℕ
+
+abbrev pub leftBy : Move → Answer → List ℕ → List ℕ → Hosted
+leftBy how (Refused why) b v = record { answer = packed (Refused why); bytes = b }
+leftBy how (Done count) b v = record { answer = packed (Done count); bytes = keptBy how b v }
+
+-- 18 for a slice that is too short, 12 for bytes that no call left; then as the operation
+unfoldable pub hostMove : Move → List ℕ → List ℕ → Hosted
+hostMove how b v =
+    let m = madeAgain b in
+    cond (ltb (length b) 5895) (record { answer = packed (Refused NoRoom); bytes = b })
+    (cond (m .whole) (leftBy how (operated how (m .session) v .answer) b v) (record { answer = packed (Refused NotReady); bytes = b }))
+
+pub record Shown : Type 0 where
+  pub answer : ℕ
+  pub words : List ℕ
+  pub befores : List ℕ
+  pub flags : List ℕ
+
+unfoldable pub hostHistory : List ℕ → List ℕ → List ℕ → List ℕ → Shown
+hostHistory b words befores flags =
+    let m = madeAgain b in
+    let h = historyOf (m .session) words befores flags in
+    let kept : Answer → Shown = λ a. record { answer = packed a; words = words; befores = befores; flags = flags } in
+    cond (ltb (length b) 5895) (kept (Refused NoRoom))
+    (cond (m .whole) (record { answer = packed (h .answer); words = h .words; befores = h .befores; flags = h .flags }) (kept (Refused NotReady)))

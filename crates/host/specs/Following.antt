@@ -1,0 +1,38 @@
+-- Calls one after another, on lent bytes and on the library's own sessions. Assumes nothing.
+use mathlib.Core.Path.{_≡_}
+use mathlib.Core.List.{List, [], _∷_}
+use Prim.Native.Nat.{ℕ, _≤_}
+use lib.ListN.{length}
+use Rattle.records.specs.Written.{Bytes}
+use Rattle.card.specs.declared.Session.{Session}
+use Rattle.host.specs.declared.Move.{Move}
+use Rattle.host.specs.Made.{held, madeAgain}
+use Rattle.host.specs.Calls.{packed, operated, Hosted, hostMove}
+
+-- lent bytes that hold a session
+pub record Holding (b : List ℕ) (s : Session) : Type 0 where
+  pub room : 5895 ≤ length b
+  pub bytes : Bytes b
+  pub made : madeAgain b ≡ held s
+
+-- a call: which one, and the bytes that it is given
+pub record Call : Type 0 where
+  pub how : Move
+  pub given : List ℕ
+
+-- the bytes and the session that some calls leave, and what each call answers
+unfoldable pub bytesAfter : List ℕ → List Call → List ℕ
+bytesAfter b [] = b
+bytesAfter b (c ∷ cs) = bytesAfter (hostMove (c .how) b (c .given) .bytes) cs
+
+unfoldable pub sessionAfter : Session → List Call → Session
+sessionAfter s [] = s
+sessionAfter s (c ∷ cs) = sessionAfter (operated (c .how) s (c .given) .session) cs
+
+unfoldable pub hostAnswers : List ℕ → List Call → List ℕ
+hostAnswers b [] = []
+hostAnswers b (c ∷ cs) = let h = hostMove (c .how) b (c .given) in h .answer ∷ hostAnswers (h .bytes) cs
+
+unfoldable pub libraryAnswers : Session → List Call → List ℕ
+libraryAnswers s [] = []
+libraryAnswers s (c ∷ cs) = let m = operated (c .how) s (c .given) in packed (m .answer) ∷ libraryAnswers (m .session) cs

@@ -1,0 +1,5 @@
+pub mod Places
+pub mod Made
+pub mod Calls
+pub mod Following
+pub mod Many
