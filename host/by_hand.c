@@ -198,6 +198,28 @@ uint64_t krasvome_steps(uint8_t *b, size_t length, const uint8_t *v, size_t size
 #endif
 }
 
+uint64_t krasvome_vectors(uint8_t *b, size_t length, const uint8_t *v, size_t size, uint64_t *words, size_t room)
+{
+    static struct hand h;
+    int number = open_session(&h, b, length);
+    if (!number && b[0] < 2)
+        number = 12;
+    size_t n = (size_t)held.inputs, count = number ? 0 : size / n;
+    if (!number && size % n)
+        number = 10;
+    for (size_t i = 0; !number && i < size; i++)
+        if (v[i] > 1)
+            number = 11;
+    if (!number && room < count * (size_t)h.nets)
+        number = 18;
+    for (size_t k = 0; !number && k < count; k++) {
+        hand_vector(&h, v + k * n);
+        memcpy(words + k * (size_t)h.nets, h.word, (size_t)h.nets * sizeof *words);
+        krasvome_vector(b, length, v + k * n, n);
+    }
+    return (uint64_t)number;
+}
+
 uint64_t krasvome_history(const uint8_t *b, size_t length, uint64_t *words, size_t w, uint8_t *befores, size_t x, uint8_t *flags, size_t y)
 {
     static struct hand h;

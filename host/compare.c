@@ -117,6 +117,28 @@ static void check_refused(struct random_source *r, const struct sim *s, uint8_t 
     check_answer("bytes that no call left", krasvome_vector(broken, KRASVOME_SESSION, v, n), 12, 0, broken, was);
 }
 
+/* All vectors of a sequence in one call: the words of each, and the bytes that the calls one by one left. */
+static void check_many(const struct sim *s, uint8_t *session, const uint8_t *after, const uint8_t *all, size_t count, const uint64_t *word)
+{
+    static uint64_t got[8 * SIM_NETS + 1];
+    uint8_t old[KRASVOME_SESSION + 1];
+    size_t n = (size_t)s->inputs, nets = (size_t)s->nets;
+    memset(got, 0xaa, sizeof got);
+    memcpy(old, session, sizeof old);
+    if (count > 0)
+        check_answer("many with too little room", krasvome_vectors(session, KRASVOME_SESSION, all, count * n, got, count * nets - 1), 18, 0, session, old);
+    if (n > 1)
+        check_answer("many that are not whole", krasvome_vectors(session, KRASVOME_SESSION, all, count * n + 1, got, count * nets), 10, 0, session, old);
+    check("room of a refused call", UINT64_C(0xaaaaaaaaaaaaaaaa), got[0]);
+    check_answer("many vectors", krasvome_vectors(session, KRASVOME_SESSION, all, count * n, got, count * nets + 1), 0, 0, session, old);
+    for (size_t i = 0; i < count * nets; i++)
+        if (got[i] != word[i])
+            mismatch("a word of many vectors", (unsigned long)word[i], (unsigned long)got[i]);
+    check("room past many words", UINT64_C(0xaaaaaaaaaaaaaaaa), got[count * nets]);
+    if (memcmp(session, after, KRASVOME_SESSION + 1))
+        mismatch("many vectors that leave other bytes", 0, 1);
+}
+
 static void check_card(struct random_source *r, const uint8_t *bytes, size_t length)
 {
     static struct sim s;
@@ -134,14 +156,18 @@ static void check_card(struct random_source *r, const uint8_t *bytes, size_t len
     memset(v, 0, sizeof v);
     random_vector(r, &s, v);
     memcpy(other, session, sizeof other);
+    uint8_t rested[KRASVOME_SESSION + 1], all[8 * SIM_NETS];
+    static uint64_t word[8 * SIM_NETS];
+    size_t count = 0;
     for (int k = (int)(1 + random_below(r, 5)); k >= 0; k--) {
-        int resting = k == 0 || s.events == 0 ? random_below(r, 4) == 0 : 0;
-        if (vectors == 0 || resting || session[0] == 1) {
+        if (session[0] == 1 || random_below(r, 6) == 0) {
             put_record(5, v, (size_t)s.inputs);
             sim_rest(&s, v);
             check_answer("rest", krasvome_rest(session, KRASVOME_SESSION, v, (size_t)s.inputs), 0, 0, session, old);
             check_answer("rest", krasvome_rest(other, KRASVOME_SESSION, v, (size_t)s.inputs), 0, 0, other, old);
             check_history(&s, session);
+            memcpy(rested, session, sizeof rested);
+            count = 0;
         }
         check_refused(r, &s, session, 1);
         random_vector(r, &s, v);
@@ -159,7 +185,11 @@ static void check_card(struct random_source *r, const uint8_t *bytes, size_t len
         check_history(&s, other);
         check("byte past the session", 0, session[KRASVOME_SESSION]);
         vectors++;
+        memcpy(all + count * (size_t)s.inputs, v, (size_t)s.inputs);
+        memcpy(word + count * (size_t)s.nets, s.word, (size_t)s.nets * sizeof *word);
+        count++;
     }
+    check_many(&s, rested, session, all, count, word);
 }
 
 int main(int argc, char **argv)

@@ -125,7 +125,12 @@ size_t random_card(struct random_source *r, uint8_t bytes[CARD_ROOM])
 {
     static const int largest[3] = {63, 63, 10};
     int rungs[3];
-    switch (random_below(r, 8)) {
+    switch (random_below(r, 9)) {
+    case 8: /* a net too many, or no input */
+        if (chance(r, 50))
+            return ladder_card(bytes, largest, 1, 0, 257);
+        bytes[2] = 4;
+        return bytes[0] = bytes[1] = bytes[3] = 0, 4;
     case 0: /* small */
         return shaped_card(r, bytes, 2 + (int)random_below(r, 6), 30, 300, 3, chance(r, 40));
     case 1: /* wide: many inputs, few levels */
