@@ -1,0 +1,95 @@
+/* Times of the engines on one card, as the mean of many vectors: the library's field engine inside the call that runs many vectors, the same algorithm by hand, and
+ * the event-driven simulator, with a given part of the inputs changing. One line: nets, gates, depth, steps, inputs, percent, and nanoseconds a vector of each.
+ *
+ *     measure SHAPE SIZE PERCENT        SHAPE: largest, chain, ladder, random */
+#define _POSIX_C_SOURCE 199309L
+
+#include "by_hand.h"
+#include "krasvome.h"
+#include "random_cards.h"
+#include "simulator.h"
+
+#include <stdio.h>
+#include <stdlib.h>
+#include <string.h>
+#include <time.h>
+
+enum { VECTORS = 2000 };
+
+static double now(void)
+{
+    struct timespec t;
+    clock_gettime(CLOCK_MONOTONIC, &t);
+    return (double)t.tv_sec * 1e9 + (double)t.tv_nsec;
+}
+
+static size_t make_card(struct random_source *r, const char *shape, int size, uint8_t *bytes, struct sim *s)
+{
+    static const int largest[3] = {63, 63, 10};
+    if (!strcmp(shape, "largest"))
+        return ladder_card(bytes, largest, 3, 9, 256);
+    if (!strcmp(shape, "ladder"))
+        return ladder_card(bytes, &size, 1, 0, 0);
+    for (;;) {
+        size_t length = random_card(r, bytes);
+        if (!sim_load(s, bytes, length) && s->nets == size && s->inputs * 2 < s->nets && s->depth > 6)
+            return length;
+    }
+}
+
+int main(int argc, char **argv)
+{
+    static struct sim s;
+    static struct hand h;
+    uint8_t bytes[CARD_ROOM], session[KRASVOME_SESSION] = {0};
+    struct random_source r = {2026};
+    if (argc < 4)
+        return 2;
+    int size = atoi(argv[2]);
+    unsigned percent = (unsigned)atoi(argv[3]);
+    size_t length = make_card(&r, argv[1], size, bytes, &s);
+    if (sim_load(&s, bytes, length))
+        return 2;
+    size_t n = (size_t)s.inputs, nets = (size_t)s.nets;
+    uint8_t *vectors = malloc(VECTORS * n);
+    uint64_t *words = malloc(VECTORS * nets * sizeof *words);
+    if (!vectors || !words)
+        return 2;
+    memset(words, 0, VECTORS * nets * sizeof *words);
+    for (size_t k = 0; k < VECTORS; k++)
+        for (size_t i = 0; i < n; i++) {
+            uint8_t old = k ? vectors[(k - 1) * n + i] : 0;
+            vectors[k * n + i] = random_below(&r, 100) < percent ? !old : old;
+        }
+    uint8_t rest[SIM_NETS] = {0};
+    hand_load(&h, &s);
+    double fields = 1e30, hand = 1e30, events = 1e30;
+    for (int turn = 0; turn < 5; turn++) {
+        memset(session, 0, sizeof session);
+        krasvome_load(session, sizeof session, bytes, length);
+        krasvome_rest(session, sizeof session, rest, n);
+        double t = now();
+        if (krasvome_vectors(session, sizeof session, vectors, VECTORS * n, words, VECTORS * nets))
+            return 1;
+        t = (now() - t) / VECTORS;
+        fields = t < fields ? t : fields;
+        hand_rest(&h, &s, rest);
+        t = now();
+        for (size_t k = 0; k < VECTORS; k++) {
+            hand_vector(&h, vectors + k * n);
+            memcpy(words + k * nets, h.word, nets * sizeof *words);
+        }
+        t = (now() - t) / VECTORS;
+        hand = t < hand ? t : hand;
+        sim_rest(&s, rest);
+        t = now();
+        for (size_t k = 0; k < VECTORS; k++) {
+            sim_vector(&s, vectors + k * n);
+            memcpy(words + k * nets, s.word, nets * sizeof *words);
+        }
+        t = (now() - t) / VECTORS;
+        events = t < events ? t : events;
+    }
+    printf("%d %d %d %d %d %u %.0f %.0f %.0f\n", s.nets, h.gates, s.depth, s.pairs, s.inputs, percent, fields, hand, events);
+    return 0;
+}
