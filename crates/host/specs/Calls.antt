@@ -19,7 +19,7 @@ use Rattle.host.specs.declared.Move.the-variants.{Load, Rest, Vector, St
 use Rattle.host.specs.Places.{area, lastRoom}
 use Rattle.host.specs.Made.{madeAgain}
 
--- an answer as one number: the paper's number, and 256 times the count
+-- an answer as one number: the paper's number, and 256 times the count. "With 0 comes a count." No count is over 4,096 (`packed-plain`)
 unfoldable pub packed : Answer → ℕ
 packed a = answerNumber a + 256 * (answerCount a % 65536)
 
@@ -58,7 +58,8 @@ abbrev pub leftBy : Move → Answer → List ℕ → List ℕ → Hosted
 leftBy how (Refused why) b v = record { answer = packed (Refused why); bytes = b }
 leftBy how (Done count) b v = record { answer = packed (Done count); bytes = keptBy how b v }
 
--- 18 for a slice that is too short, 12 for bytes that no call left; then as the operation
+-- "A host program in C or Rust calls the library for load, rest, vector and history": 18 for a slice that is too short ("lent room too short"), 12 for bytes
+-- that no call left ("no card"); then as the operation. "Every refusal returns its number and count 0, and changes neither session nor lent memory."
 unfoldable pub hostMove : Move → List ℕ → List ℕ → Hosted
 hostMove how b v =
     let m = madeAgain b in

@@ -42,7 +42,7 @@ madePlain b s = cond (fitting b 0 0) (held s) broken
 unfoldable pub madeRested : List ℕ → Session → Made
 madeRested b s = cond (fitting b 0 (s .inputs)) (madeBy (restOf s (part b 259 (s .inputs)))) broken
 
--- a card that the last vector moved, from a rest by the one before it
+-- a card that the last vector moved, from a rest by the one before it: "The value at 63 is the next before value", and that is the settled one
 unfoldable pub madeMoved : List ℕ → Session → Made
 madeMoved b s =
     let r = restOf s (part b 3 (s .inputs)) in
