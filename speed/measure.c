@@ -1,7 +1,8 @@
 /* Times of the engines on one card, as the mean of many vectors: the library's field engine inside the call that runs many vectors, the same algorithm by hand, and
  * the event-driven simulator, with a given part of the inputs changing. One line: nets, gates, depth, steps, inputs, percent, and nanoseconds a vector of each.
  *
- *     measure SHAPE SIZE PERCENT        SHAPE: largest, chain, ladder, random */
+ *     measure SHAPE SIZE PERCENT        SHAPE: largest, ladder, random
+ *     measure SHAPE SIZE PERCENT show   the card and the vectors in hex instead, a line each */
 #define _POSIX_C_SOURCE 199309L
 
 #include "by_hand.h"
@@ -37,6 +38,13 @@ static size_t make_card(struct random_source *r, const char *shape, int size, ui
     }
 }
 
+static void show(const uint8_t *bytes, size_t length)
+{
+    for (size_t i = 0; i < length; i++)
+        printf("%02x", bytes[i]);
+    putchar('\n');
+}
+
 int main(int argc, char **argv)
 {
     static struct sim s;
@@ -61,6 +69,11 @@ int main(int argc, char **argv)
             uint8_t old = k ? vectors[(k - 1) * n + i] : 0;
             vectors[k * n + i] = random_below(&r, 100) < percent ? !old : old;
         }
+    if (argc > 4) {
+        show(bytes, length);
+        show(vectors, VECTORS * n);
+        return 0;
+    }
     uint8_t rest[SIM_NETS] = {0};
     hand_load(&h, &s);
     double fields = 1e30, hand = 1e30, events = 1e30;

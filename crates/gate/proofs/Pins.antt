@@ -2,14 +2,18 @@
 use mathlib.Core.Path.{_≡_, refl, sym, ap, ap₂, _∙_}
 use mathlib.Core.Bool.{Bool, true, false, not, _||_, cond, Bool·beq, or-false}
 use mathlib.Core.List.{List, [], _∷_, _++_}
-use Prim.Native.Nat.{ℕ, _+_, _≤_, _<_}
+use Prim.Native.Nat.{ℕ, zero, suc, _+_, _≤_, _<_}
 use native.Mathlib.Omega.{arith}
+use native.Mathlib.Decide.{decLt}
+use lib.Dec.{ltb}
+use lib.ListN.{length, getD}
 use borrow.Author.Tests.{lt-ltb, le-ltb}
 use Rattle.lists.specs.Entries.{some}
 use Rattle.lists.specs.Listed.{listed}
 use Rattle.lists.proofs.Tests.{some-ext, some-append}
 use Rattle.lists.proofs.Listed.{listed-none, listed-more, listed-at}
 use Rattle.word.specs.Word.{differ}
+use Rattle.gate.specs.Pins.{byPins, withPin, ofPins}
 use Rattle.gate.specs.Gate.{inverts, controls, controlled, odd, gate}
 
 -- `a ^ b` on bools, as the logic has it
@@ -84,3 +88,68 @@ module _ (ty : ℕ) (g : ℕ → Bool) (n : ℕ) where
   pub gate-odd : {o i : Bool} → 6 ≤ ty → o ≡ odd (listed g n) → i ≡ inverts ty → differ o i ≡ gate ty (listed g n)
   unfolding gate
   gate-odd h e f = rw (le-ltb ty 2 (omega arith), le-ltb ty 6 h) (ap₂ differ e f)
+
+-- Pin by pin
+
+module _ (ty : ℕ) where
+  pub by-none : (g : ℕ → Bool) → false ≡ byPins ty (listed g 0)
+  unfolding byPins
+  by-none g = go (ltb ty 6)
+    where
+      go : (b : Bool) → false ≡ cond b (some (λ p. differ p (not (controls ty))) (listed g 0)) (odd (listed g 0))
+      go true = some-none _ g
+      go false = odd-none g
+
+  pub by-more : (g : ℕ → Bool) (i : ℕ) → withPin ty (byPins ty (listed g i)) (g i) ≡ byPins ty (listed g (i + 1))
+  unfolding byPins withPin
+  by-more g i = go (ltb ty 6)
+    where
+      go : (b : Bool)
+          → cond b (cond b (some (λ p. differ p (not (controls ty))) (listed g i)) (odd (listed g i)) || differ (g i) (not (controls ty))) (differ (cond b (some (λ p. differ p (not (controls ty))) (listed g i)) (odd (listed g i))) (g i))
+          ≡ cond b (some (λ p. differ p (not (controls ty))) (listed g (i + 1))) (odd (listed g (i + 1)))
+      go true = some-more (λ p. differ p (not (controls ty))) g i refl refl
+      go false = odd-more g i refl
+
+  -- a gate of one pin, BUF or NOT, is AND or NAND of that pin
+  single : (ps : List Bool) → ty < 2 → length ps ≡ 1 → controlled (controls ty) (inverts ty) ps ≡ differ (getD ps 0 false) (inverts ty)
+  unfolding controlled controls
+  single [] h e = absurd (omega arith)
+  single (p ∷ q ∷ ps) h e = absurd (omega arith)
+  single (p ∷ []) h e = go ty h p
+    where
+      go : (ty : ℕ) → ty < 2 → (p : Bool) → controlled (controls ty) (inverts ty) (p ∷ []) ≡ differ p (inverts ty)
+      go zero h true = refl
+      go zero h false = refl
+      go (suc zero) h true = refl
+      go (suc zero) h false = refl
+      go (suc (suc ty)) h p = absurd (omega arith)
+
+  -- what a gate gives of what its pins come to is its function of them
+  pub gate-by-pins : (ps : List Bool) → (ty < 2 → length ps ≡ 1) → ofPins ty (byPins ty ps) ≡ gate ty ps
+  unfolding byPins ofPins gate
+  gate-by-pins ps one = go (decLt ty 6) (decLt ty 2)
+    where
+      by-control : ty < 6 → ofPins ty (byPins ty ps) ≡ controlled (controls ty) (inverts ty) ps
+      by-control l = rw (lt-ltb ty 6 l) (controlled-is (controls ty) (inverts ty) ps refl refl refl)
+
+      go : Dec (ty < 6) → Dec (ty < 2) → ofPins ty (byPins ty ps) ≡ gate ty ps
+      go (no l) d = rw (le-ltb ty 2 (omega arith), le-ltb ty 6 (omega arith))
+      go (yes l) (yes h) = by-control l ∙ single ps h (one h) ∙ rw (lt-ltb ty 2 h)
+      go (yes l) (no h) = by-control l ∙ rw (le-ltb ty 2 (omega arith), lt-ltb ty 6 l)
+
+  -- as the code goes through the types, with what it has of the table's row
+  pub pin-control : (known p : Bool) {m : Bool} → ty < 6 → m ≡ not (controls ty) → known || differ p m ≡ withPin ty known p
+  unfolding withPin
+  pin-control known p l e = rw (lt-ltb ty 6 l) (ap (λ m. known || differ p m) e)
+
+  pub pin-odd : (known p : Bool) → 6 ≤ ty → differ known p ≡ withPin ty known p
+  unfolding withPin
+  pin-odd known p l = rw (le-ltb ty 6 l)
+
+  pub of-control : (all : Bool) {m i : Bool} → ty < 6 → m ≡ not (controls ty) → i ≡ inverts ty → differ (differ all m) i ≡ ofPins ty all
+  unfolding ofPins
+  of-control all l e f = rw (lt-ltb ty 6 l) (ap₂ (λ m i. differ (differ all m) i) e f)
+
+  pub of-odd : (all : Bool) {i : Bool} → 6 ≤ ty → i ≡ inverts ty → differ all i ≡ ofPins ty all
+  unfolding ofPins
+  of-odd all l f = rw (le-ltb ty 6 l) (ap (differ all) f)

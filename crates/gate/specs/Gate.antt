@@ -6,12 +6,11 @@ use Prim.Native.Nat.{ℕ}
 use lib.Dec.{ltb}
 use lib.ListN.{getD}
 use Rattle.lists.specs.Entries.{some}
-use Rattle.lists.specs.Listed.{listed}
-use Rattle.word.specs.Word.{bit, differ}
+use Rattle.word.specs.Word.{differ}
 
 -- "Source document 002 gives each of the four primitive types a controlling value and an inversion: AND 0 0, OR 1 0, NAND 0 1,
--- NOR 1 1. These stand as a table." Its index is the gate type; BUF, NOT, XOR and XNOR have no controlling value, and nothing
--- reads theirs; NOT and XNOR invert BUF and XOR.
+-- NOR 1 1. These stand as a table." Its index is the gate type. BUF and NOT have AND's and NAND's rows; XOR and XNOR have
+-- no controlling value, and nothing reads theirs; NOT and XNOR invert BUF and XOR.
 unfoldable pub controls : ℕ → Bool
 controls ty = getD (false ∷ false ∷ false ∷ false ∷ true ∷ true ∷ false ∷ false ∷ []) ty false
 
@@ -33,7 +32,3 @@ gate ty ps =
     cond (ltb ty 2) (differ (getD ps 0 false) (inverts ty))
     (cond (ltb ty 6) (controlled (controls ty) (inverts ty) ps)
     (differ (odd ps) (inverts ty)))
-
--- the values at time t of the first n of some words
-abbrev pub column : ℕ → List ℕ → ℕ → List Bool
-column t ws n = listed (λ i. bit (getD ws i 0) t) n

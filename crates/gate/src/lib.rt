@@ -1,4 +1,4 @@
-// What a gate gives of its pins: of one value each, and of one word each, in which bit t is the value at time t.
+// What a gate gives of its pins: of one value each, and of one word each, in which bit t is the value at time t. The words are taken in pin by pin.
 ghost use mathlib.Core.Path.{_≡_};
 ghost use mathlib.Core.Bool.{false};
 ghost use Prim.Native.Nat.{ℕ, _<_, _≤_};
@@ -6,15 +6,16 @@ ghost use lib.ListN.{getD};
 ghost use Rattle.lists.specs.Entries.{some};
 ghost use Rattle.lists.specs.Listed.{listed};
 ghost use Rattle.word.specs.Word.{bit, differ, movedUp};
-ghost use Rattle.gate.specs.Gate.{controls, inverts, controlled, odd, gate, column};
+ghost use Rattle.gate.specs.Pins.{withPin, ofPins};
+ghost use Rattle.gate.specs.Gate.{controls, inverts, controlled, odd, gate};
 
 pub struct Rule {
     pub controlling: bool,
     pub inversion: bool,
 }
 
-// Document 002's table, a row for each gate type: BUF, NOT, AND, NAND, OR, NOR, XOR, XNOR. BUF and XOR stand beside their
-// inversions NOT and XNOR; those four have no controlling value, and nothing reads it.
+// Document 002's table, a row for each gate type: BUF, NOT, AND, NAND, OR, NOR, XOR, XNOR. BUF and NOT have AND's and NAND's rows, of which they are what
+// one pin gives; XOR and XNOR have no controlling value, and nothing reads it.
 const RULES: [Rule; 8] = [
     Rule {
         controlling: false, // BUF
@@ -72,20 +73,6 @@ fn some_differ(pins: &[bool; 8], n: usize, m: bool) -> bool
     acc
 }
 
-// The same at every time.
-fn some_differ_word(pins: &[u64; 8], n: usize, m: u64) -> u64
-    requires { ⌜ n ≤ 8 ⌝ }
-    ensures { λ r. ⌜ ((t : ℕ) → bit r t ≡ some (λ p. differ p (bit m t)) (column t (now (pins .entry)) n)) ⌝ }
-{
-    let mut word: u64 = 0;
-    let mut i: usize = 0;
-    while i < n {
-        word |= pins[i] ^ m;
-        i += 1;
-    }
-    word
-}
-
 // Whether an odd number of pins is 1.
 fn odd_of(pins: &[bool; 8], n: usize) -> bool
     requires { ⌜ n ≤ 8 ⌝ }
@@ -100,20 +87,6 @@ fn odd_of(pins: &[bool; 8], n: usize) -> bool
     acc
 }
 
-// The same at every time.
-fn odd_word(pins: &[u64; 8], n: usize) -> u64
-    requires { ⌜ n ≤ 8 ⌝ }
-    ensures { λ r. ⌜ ((t : ℕ) → bit r t ≡ odd (column t (now (pins .entry)) n)) ⌝ }
-{
-    let mut word: u64 = 0;
-    let mut i: usize = 0;
-    while i < n {
-        word ^= pins[i];
-        i += 1;
-    }
-    word
-}
-
 // A gate with a controlling value: that value where some pin has it, else the other, inverted where the rule says so.
 fn controlled_bit(rule: Rule, pins: &[bool; 8], n: usize) -> bool
     requires { ⌜ n ≤ 8 ⌝ }
@@ -121,16 +94,6 @@ fn controlled_bit(rule: Rule, pins: &[bool; 8], n: usize) -> bool
 {
     let m = !rule.controlling;
     some_differ(pins, n, m) ^ m ^ rule.inversion
-}
-
-// The same at every time.
-fn controlled_word(rule: Rule, pins: &[u64; 8], n: usize) -> u64
-    requires { ⌜ n ≤ 8 ⌝ }
-    ensures { λ r. ⌜ ((t : ℕ) → t < 64 → bit r t ≡ controlled (rule .controlling) (rule .inversion) (column t (now (pins .entry)) n)) ⌝ }
-{
-    let m = word::spread(!rule.controlling);
-    let i = word::spread(rule.inversion);
-    some_differ_word(pins, n, m) ^ m ^ i
 }
 
 // A gate's value of its pins' values.
@@ -148,25 +111,35 @@ pub fn gate_bit(ty: usize, pins: &[bool; 8], n: usize) -> bool
     odd_of(pins, n) ^ rule.inversion
 }
 
-// A gate's word of its pins' words: at each time the gate's value of the pins' values.
-pub fn gate_word(ty: usize, pins: &[u64; 8], n: usize) -> u64
-    requires { ⌜ (ty < 8) × (0 < n) × (n ≤ 8) ⌝ }
-    ensures { λ r. ⌜ ((t : ℕ) → t < 64 → bit r t ≡ gate ty (column t (now (pins .entry)) n)) ⌝ }
+// Pin by pin, at every time: what the pins so far come to, with one more. From none it is 0.
+pub fn with_pin(ty: usize, known: u64, pin: u64) -> u64
+    requires { ⌜ ty < 8 ⌝ }
+    ensures { λ r. ⌜ ((t : ℕ) → t < 64 → bit r t ≡ withPin ty (bit known t) (bit pin t)) ⌝ }
 {
     let rule = rule_of(ty);
-    if ty < 2 {
-        return pins[0] ^ word::spread(rule.inversion);
-    }
     if ty < 6 {
-        return controlled_word(rule, pins, n);
+        return known | (pin ^ word::spread(!rule.controlling));
     }
-    odd_word(pins, n) ^ word::spread(rule.inversion)
+    known ^ pin
 }
 
-// A gate's field: its word of its pins' words, moved up by one, with the before value in bit 0.
-pub fn field(ty: usize, pins: &[u64; 8], n: usize, before: bool) -> u64
-    requires { ⌜ (ty < 8) × (0 < n) × (n ≤ 8) ⌝ }
-    ensures { λ r. ⌜ ((t : ℕ) → t < 64 → bit r t ≡ movedUp before (λ u. gate ty (column u (now (pins .entry)) n)) t) ⌝ }
+// A gate's word of what all its pins come to.
+fn gate_word(ty: usize, all: u64) -> u64
+    requires { ⌜ ty < 8 ⌝ }
+    ensures { λ r. ⌜ ((t : ℕ) → t < 64 → bit r t ≡ ofPins ty (bit all t)) ⌝ }
 {
-    word::up(gate_word(ty, pins, n), before)
+    let rule = rule_of(ty);
+    let inversion = word::spread(rule.inversion);
+    if ty < 6 {
+        return all ^ word::spread(!rule.controlling) ^ inversion;
+    }
+    all ^ inversion
+}
+
+// A gate's field of what all its pins come to: its word, moved up by one, with the before value in bit 0.
+pub fn field(ty: usize, all: u64, before: bool) -> u64
+    requires { ⌜ ty < 8 ⌝ }
+    ensures { λ r. ⌜ ((t : ℕ) → t < 64 → bit r t ≡ movedUp before (λ u. ofPins ty (bit all u)) t) ⌝ }
+{
+    word::up(gate_word(ty, all), before)
 }

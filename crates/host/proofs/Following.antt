@@ -75,7 +75,7 @@ module _ (b : List ℕ) (s : Session) (h : Holding b s) where
   held-kept = opened b (h .bytes) s (h .made)
 
   module _ (v : List ℕ) (g : Bytes v) where
-    move-is : (how : Move) → hostMove how b v ≡ leftBy how (operated how s v .answer) b v
+    pub move-is : (how : Move) → hostMove how b v ≡ leftBy how (operated how s v .answer) b v
     move-is how =
         sym (move-left how b v (h .room) (ap (λ m. m .whole) (h .made))) ∙ ap (λ m. leftBy how (operated how (m .session) v .answer) b v) (h .made)
 

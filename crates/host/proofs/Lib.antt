@@ -2,6 +2,7 @@ pub mod Places
 pub mod Making
 pub mod Answering
 pub mod Many
+pub mod Singles
 pub mod Rooms
 pub mod Sizes
 pub mod Restarts

@@ -9,15 +9,17 @@
 //
 // Every call answers the paper's number and the count: number + 256 * count.
 ghost use mathlib.Core.Path.{_≡_};
+ghost use mathlib.Core.Bool.{true};
 ghost use Prim.Native.Nat.{_+_, _*_, _≤_};
 ghost use lib.ListN.{length, getD};
+ghost use Rattle.lists.specs.Entries.{every};
 ghost use Rattle.session.specs.Good.{Good};
+ghost use Rattle.session.specs.Inputs.{byteFits};
 ghost use Rattle.host.specs.declared.Move.the-variants.{Load, Rest, Vector, Steps};
 ghost use Rattle.host.specs.Places.{clear, area, lastRoom};
 ghost use Rattle.host.specs.Made.{broken, madeBy, fitting, madePlain, madeRested, madeMoved, madeCard, madeLoaded, madeAgain};
 ghost use Rattle.host.specs.Calls.{packed, loadMove, operated, keptCard, keptRest, keptVector, keptBy, leftBy, hostMove, hostHistory};
 ghost use Rattle.host.specs.Many.{manyRun, manyJudged, keptAt, keptMany, manyDone, hostVectors};
-ghost use Rattle.session.specs.Moves.{vectorOf};
 use card::Session;
 use rule::Answer;
 use rule::Refusal;
@@ -389,29 +391,32 @@ fn put_words(words: &[u64; 256], n: usize, room: &mut [u64], at: usize)
     }
 }
 
-// A vector by fields that fits: the session that it leaves.
-fn moved(s: Session, v: &[u8]) -> Session
+// Vectors one after another, the first k of them, a byte an input each; the words of each history go to lent room, a word a net. Only the words change from one vector
+// to the next, so the session is not made again in between.
+fn run_many(s: Session, vectors: &[u8], k: usize, room: &mut [u64])
     requires { ⌜ Good s ⌝ }
-    ensures { λ r. ⌜ r ≡ vectorOf s (now (v .entry)) .session ⌝ }
+    requires { ⌜ (s .rested ≡ true) × (every byteFits (now vectors) ≡ true) ⌝ }
+    requires { ⌜ (k * s .inputs ≤ length (now vectors)) × (s .nets ≤ 256) × (k * s .nets ≤ length (now room)) ⌝ }
+    ensures { λ r. ⌜ now (room .exit) ≡ manyRun s (now (vectors .entry)) (s .inputs) k (now (room .entry)) .words ⌝ }
 {
-    let left = session::vector(s, v);
-    left.session
-}
-
-// Vectors of n bytes each, one after another, the first k of them; the words of each history go to lent room, nets of them at a time.
-fn run_many(s: Session, vectors: &[u8], n: usize, k: usize, room: &mut [u64])
-    requires { ⌜ Good s ⌝ }
-    requires { ⌜ (k * n ≤ length (now vectors)) × (s .nets ≤ 256) × (k * s .nets ≤ length (now room)) ⌝ }
-    ensures { λ r. ⌜ now (room .exit) ≡ manyRun s (now (vectors .entry)) n k (now (room .entry)) .words ⌝ }
-{
-    let mut session = s;
+    let n = s.inputs;
     let nets = s.nets;
+    let mut words = s.words;
     let mut done: usize = 0;
     let mut from: usize = 0;
     let mut at: usize = 0;
     while done < k {
-        session = moved(session, &vectors[from..from + n]);
-        let words = session.words;
+        session::advance(
+            &mut words,
+            &s.kinds,
+            &s.types,
+            &s.counts,
+            &s.places,
+            nets,
+            &s.order,
+            s.gates,
+            &vectors[from..from + n],
+        );
         put_words(&words, nets, room, at);
         done += 1;
         from += n;
@@ -477,7 +482,7 @@ fn do_many(s: Session, b: &mut [u8], vectors: &[u8], words: &mut [u64]) -> u64
     match verdict {
         Answer::Refused(_) => pack(verdict),
         Answer::Done(k) => {
-            run_many(s, vectors, s.inputs, k, words);
+            run_many(s, vectors, k, words);
             keep_many(b, vectors, s.inputs, k);
             0
         }

@@ -5,10 +5,24 @@ use mathlib.Core.List.{List, [], _∷_, _++_, List·Memᴰ·head, List·Memᴰ·
 use mathlib.Core.Logic.{_⊎_, inl, inr}
 use Prim.Native.Nat.{ℕ, zero, suc, _+_, _<_}
 use native.Mathlib.Omega.{arith}
+use lib.ListN.{length, getD}
 use Rattle.lists.specs.Entries.{_∈_, each, when, from, Sorted, Distinct}
 use Rattle.lists.proofs.Joined.{out-each, out-from}
 
 module _ {A : Type 0} where
+  -- an entry stands in its list
+  pub at-in : (xs : List A) (i : ℕ) (d : A) → i < length xs → getD xs i d ∈ xs
+  at-in [] i d l = absurd (omega arith)
+  at-in (x ∷ xs) zero d l = List·Memᴰ·head refl
+  at-in (x ∷ xs) (suc i) d l = List·Memᴰ·tail (at-in xs i d (omega arith))
+
+  -- entries by their places
+  pub sorted-at : (R : A → A → Type 0) (xs : List A) (d : A) (i j : ℕ) → i < j → j < length xs → Sorted R xs → R (getD xs i d) (getD xs j d)
+  sorted-at R [] d i j l m s = absurd (omega arith)
+  sorted-at R (x ∷ xs) d i zero l m s = absurd (omega arith)
+  sorted-at R (x ∷ xs) d zero (suc j) l m s = s .0 (getD xs j d) (at-in xs j d (omega arith))
+  sorted-at R (x ∷ xs) d (suc i) (suc j) l m s = sorted-at R xs d i j (omega arith) (omega arith) (s .1)
+
   pub sorted-append : (R : A → A → Type 0) (xs ys : List A) → Sorted R xs → Sorted R ys → ((x y : A) → x ∈ xs → y ∈ ys → R x y) → Sorted R (xs ++ ys)
   sorted-append R [] ys sx sy h = sy
   sorted-append R (x ∷ xs) ys sx sy h =

@@ -2,11 +2,12 @@
 -- Assumes nothing.
 use mathlib.Core.Path.{_≡_, refl, ap, subst}
 use mathlib.Core.Bool.{true, false, true≢false}
-use mathlib.Core.List.{List, [], _∷_, List·Memᴰ·head, List·Memᴰ·tail}
-use Prim.Native.Nat.{ℕ, zero, suc, _≤_, _<_}
+use mathlib.Core.List.{List, []}
+use Prim.Native.Nat.{ℕ, _≤_, _<_}
 use native.Mathlib.Omega.{arith}
-use lib.ListN.{length, getD}
+use lib.ListN.{length}
 use Rattle.lists.specs.Entries.{_∈_}
+use Rattle.lists.proofs.Order.{at-in}
 use Rattle.rule.specs.Net.{Net, input, constant, gate, netAt, pinsOf, isSource, Pinned}
 use Rattle.rule.proofs.Nets.{net-here, gate-listed}
 use Rattle.wiring.specs.Layout.{Fits}
@@ -15,12 +16,6 @@ use Rattle.records.specs.Scan.{Means, meaning}
 use Rattle.records.specs.Written.{Legal, AllLegal, Bytes}
 use Rattle.records.proofs.Heads.{type-known}
 use Rattle.records.proofs.Cards.{written}
-
--- an entry stands in its list
-at-in : {A : Type 0} (xs : List A) (i : ℕ) (d : A) → i < length xs → getD xs i d ∈ xs
-at-in [] i d l = absurd (omega arith)
-at-in (x ∷ xs) zero d l = List·Memᴰ·head refl
-at-in (x ∷ xs) (suc i) d l = List·Memᴰ·tail (at-in xs i d (omega arith))
 
 pub record Fitted (c : List Net) : Type 0 where
   pub fits : Fits c

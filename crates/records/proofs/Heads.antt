@@ -1,10 +1,10 @@
 -- What the tests on a record's head and body tell: which kind has which length, which type how many pins. Assumes nothing.
-use mathlib.Core.Path.{_≡_, refl}
+use mathlib.Core.Path.{_≡_, refl, sym, ap, _∙_}
 use mathlib.Core.Bool.{Bool, true, false, cond, _&&_, false≢true}
 use Prim.Native.Nat.{ℕ, _%_, _≤_, _<_}
 use native.Mathlib.Omega.{arith}
 use lib.Dec.{ltb, leb, eqb}
-use borrow.Author.Tests.{ltb-true, leb-true, eqb-true, eq-eqb, le-leb}
+use borrow.Author.Tests.{lt-ltb, ltb-true, leb-true, eqb-true, eq-eqb, le-leb}
 use Rattle.lists.proofs.Bools.{and-both}
 use Rattle.records.specs.Bytes.{kindFits, typeFits}
 
@@ -63,6 +63,11 @@ kind-gate kind len h n1 n2 n4 = go (kind-is kind len h)
     go (of-constant q l) = absurd (n2 q)
     go (of-gate q a b o) = q
     go (of-end q l) = absurd (n4 q)
+
+-- BUF and NOT have one pin
+pub type-single : (ty count : ℕ) → typeFits ty count ≡ true → ty < 2 → count ≡ 1
+unfolding typeFits
+type-single ty count h l = eqb-true count 1 (ap (λ b. cond b (eqb count 1) (ltb ty 8 && leb 2 count)) (sym (lt-ltb ty 2 l)) ∙ h)
 
 -- a known type, and at least one pin
 pub type-known : (ty count : ℕ) → typeFits ty count ≡ true → (ty < 8) × (0 < count)

@@ -1,53 +1,52 @@
 -- Fields along an order of the gates: a gate's word of its pins' words, and one gate more. Assumes nothing.
-use mathlib.Core.Path.{_≡_, sym, ap, _∙_}
+use mathlib.Core.Path.{_≡_, refl, sym, ap, _∙_}
 use mathlib.Core.Bool.{Bool, false, not, cond}
 use mathlib.Core.List.{List, map}
-use Prim.Native.Nat.{ℕ, _+_, _^_, _*_, _≤_, _<_}
+use Prim.Native.Nat.{ℕ, zero, suc, _+_, _^_, _*_, _≤_, _<_}
 use native.Mathlib.Omega.{arith}
 use lib.Dec.{eqb}
-use lib.ListN.{length, getD, set}
-use borrow.Author.Tests.{lt-ltb, eq-eqb, ne-eqb}
+use lib.ListN.{length, getD, set, length-map}
+use borrow.Author.Tests.{eq-eqb, ne-eqb, eqb-true}
 use Rattle.lists.specs.Listed.{listed, upto}
-use Rattle.lists.proofs.Listed.{listed-none, listed-at, listed-ext, is-listed, map-listed}
+use Rattle.lists.proofs.Listed.{listed-none, length-listed, listed-at, out-listed, is-listed, map-listed}
 use Rattle.word.specs.Word.{bit, wordOf, movedUp}
 use Rattle.word.proofs.Words.{is-word}
-use Rattle.gate.specs.Gate.{gate as gateFn, column}
+use Rattle.gate.specs.Gate.{gate as gateFn}
+use Rattle.gate.specs.Pins.{byPins, ofPins}
+use Rattle.gate.proofs.Pins.{gate-by-pins}
 use Rattle.rule.specs.Net.{openValue}
 use Rattle.rule.specs.Run.{run}
 use Rattle.rule.proofs.Nets.{at-open, at-net, not-open}
+use Rattle.rule.proofs.Runs.{run-leaves-others}
 use Rattle.wiring.specs.Layout.{pinsAt}
 use Rattle.wiring.specs.Wires.{Fitting}
-use Rattle.wiring.proofs.Sets.{moved-same}
 use Rattle.wiring.proofs.Passes.{pass-more}
-use Rattle.session.specs.Inputs.{isInputKind}
-use Rattle.session.specs.Fields.{fieldAt, pinWord, passed, constantAt}
-use Rattle.session.proofs.Vectors.{not-zero}
+use Rattle.session.specs.Inputs.{isInputKind, rank, given}
+use Rattle.session.specs.Fields.{fieldOf, fieldAt, pinWord, topsOf, passed, inputsPut, constantAt}
+use Rattle.session.proofs.Vectors.{not-zero, rank-below, rank-up, given-input}
+use Rattle.session.proofs.Fills.{put-rest}
 
--- the pins' words stand at the front of the array that they are gathered in
-pub gathered : (words counts places out : List ℕ) (g j : ℕ) → j ≡ getD counts g 0 → j ≤ 8
-    → out ≡ listed (upto (λ i. pinWord words (getD places (g * 8 + i) 0)) (λ i. 0) j) 8
-    → listed (λ i. getD out i 0) (getD counts g 0) ≡ map (pinWord words) (pinsAt counts places g)
-gathered words counts places out g j e l h =
-    rw (← e)
-    (listed-ext (λ i. getD out i 0) (λ i. pinWord words (getD places (g * 8 + i) 0)) j at ∙ sym (map-listed (pinWord words) (λ i. getD places (g * 8 + i) 0) j))
-  where
-    at : (i : ℕ) → i < j → getD out i 0 ≡ pinWord words (getD places (g * 8 + i) 0)
-    at i b =
-        ap (λ xs. getD xs i 0) h
-        ∙ listed-at (upto (λ i. pinWord words (getD places (g * 8 + i) 0)) (λ i. 0) j) 8 i 0 (omega arith) ∙ rw (lt-ltb i j b)
+-- the value at time t of the i-th pin of a gate; what the pins come to, pin by pin
+abbrev pub pin : List ℕ → List ℕ → ℕ → ℕ → ℕ → Bool
+pin words places g t i = bit (pinWord words (getD places (g * 8 + i) 0)) t
 
--- a gate's function of its pins' words, moved up by one, with the before value in bit 0, is its field
-pub field-made : (before : List Bool) (types : List ℕ) (g ty n r : ℕ) (low : Bool) (pins ws : List ℕ) → ty ≡ getD types g 0 → low ≡ getD before g false
-    → listed (λ i. getD pins i 0) n ≡ ws → r < 2 ^ 64 → ((t : ℕ) → t < 64 → bit r t ≡ movedUp low (λ u. gateFn ty (column u pins n)) t) → r ≡ fieldAt before types g ws
-unfolding fieldAt
-field-made before types g ty n r low pins ws ety elow ews l h =
-    is-word 64 (movedUp (getD before g false) (λ t. gateFn (getD types g 0) (map (λ w. bit w t) ws))) r l (λ t b. h t b ∙ at t)
+pub gathered : (words counts places : List ℕ) (g ty t known j : ℕ) → j ≡ getD counts g 0 → bit known t ≡ byPins ty (listed (pin words places g t) j)
+    → bit known t ≡ byPins ty (map (λ w. bit w t) (map (pinWord words) (pinsAt counts places g)))
+gathered words counts places g ty t known j e h =
+    let place : ℕ → ℕ = λ i. getD places (g * 8 + i) 0 in
+    let count = getD counts g 0 in
+    h ∙ ap (byPins ty)
+    (ap (listed (pin words places g t)) e ∙ sym (ap (map (λ w. bit w t)) (map-listed (pinWord words) place count) ∙ map-listed (λ w. bit w t) (λ i. pinWord words (place i)) count))
+
+-- what a gate gives of what its pins come to, moved up by one, with the before value in bit 0, is its field
+pub field-made : (low : Bool) (ty all r : ℕ) (ws : List ℕ) → (ty < 2 → length ws ≡ 1) → ((t : ℕ) → t < 64 → bit all t ≡ byPins ty (map (λ w. bit w t) ws))
+    → r < 2 ^ 64 → ((t : ℕ) → t < 64 → bit r t ≡ movedUp low (λ u. ofPins ty (bit all u)) t) → r ≡ fieldOf low ty ws
+unfolding fieldOf
+field-made low ty all r ws one ha l h = is-word 64 (movedUp low (λ t. gateFn ty (map (λ w. bit w t) ws))) r l (λ t b. h t b ∙ at t b)
   where
-    at : (t : ℕ) → movedUp low (λ u. gateFn ty (column u pins n)) t ≡ movedUp (getD before g false) (λ t. gateFn (getD types g 0) (map (λ w. bit w t) ws)) t
-    at t =
-        ap (λ b. movedUp b (λ u. gateFn ty (column u pins n)) t) elow
-        ∙ moved-same (getD before g false) (λ u. gateFn ty (column u pins n)) (λ u. gateFn (getD types g 0) (map (λ w. bit w u) ws)) t
-        (λ u. ap (λ k. gateFn k (column u pins n)) ety ∙ ap (gateFn (getD types g 0)) (sym (map-listed (λ w. bit w u) (λ i. getD pins i 0) n) ∙ ap (map (λ w. bit w u)) ews))
+    at : (t : ℕ) → t < 64 → movedUp low (λ u. ofPins ty (bit all u)) t ≡ movedUp low (λ u. gateFn ty (map (λ w. bit w u) ws)) t
+    at zero b = refl
+    at (suc u) b = ap (ofPins ty) (ha u (omega arith)) ∙ gate-by-pins ty (map (λ w. bit w u) ws) (λ k. length-map ws (λ w. bit w u) ∙ one k)
 
 -- A pass
 
@@ -66,6 +65,19 @@ passed-more before types counts places start n few fitting f i below g r words a
     pass-more (pinsAt counts places) (fieldAt before types) (pinWord start) (wordOf 64 (λ t. openValue)) (at-open (wordOf 64 (λ t. openValue)) (λ m. getD start m 0))
     n few fitting f i below g r words a b e
 
+-- a gate that is still to come has its own word
+pub own-top : (before : List Bool) (types counts places start : List ℕ) (f : ℕ → ℕ) (i g : ℕ) (words : List ℕ) → g < 256 → ((j : ℕ) → j < i → ¬ (f j ≡ g))
+    → words ≡ passed before types counts places start (listed f i) → bit (getD words g 0) 63 ≡ getD (topsOf start) g false
+unfolding passed
+own-top before types counts places start f i g words l apart e =
+    ap (λ ws. bit (getD ws g 0) 63) e
+    ∙ ap (λ w. bit w 63)
+    (listed-at (run eqb (pinsAt counts places) (fieldAt before types) (pinWord start) (listed f i)) 256 g 0 l
+    ∙ run-leaves-others eqb (pinsAt counts places) eqb-true (λ k. eq-eqb k k refl) (fieldAt before types) (pinWord start) (listed f i) g
+    (λ k m. let o = out-listed f i k m in ne-eqb g k (λ q. apart (o .0) (o .1) (sym (o .2) ∙ sym q)))
+    ∙ at-net (wordOf 64 (λ t. openValue)) (λ m. getD start m 0) g (not-open g (omega arith)))
+    ∙ sym (listed-at (λ n. bit (getD start n 0) 63) 256 g false l)
+
 -- Ahead of a pass
 
 module _ (kind r : ℕ) (value before : Bool) where
@@ -81,3 +93,25 @@ constant-value kind ty e = rw (eq-eqb kind 2 e) (not-zero ty)
 
 pub no-constant : (kind ty : ℕ) → ¬ (kind ≡ 2) → false ≡ constantAt kind ty
 no-constant kind ty e = rw (ne-eqb kind 2 e)
+
+-- Inputs' words
+
+-- what stands at a net where a vector's values are put into words
+abbrev pub putAt : List ℕ → List ℕ → List ℕ → ℕ → ℕ
+putAt kinds v words n = cond (isInputKind (getD kinds n 0)) (wordOf 64 (λ t. given kinds v n)) (getD words n 0)
+
+pub length-put : (kinds v words : List ℕ) → length (inputsPut kinds v words) ≡ 256
+unfolding inputsPut
+length-put kinds v words = length-listed (putAt kinds v words) 256
+
+module _ (kinds v words : List ℕ) where
+  pub put-input : (n j r : ℕ) → getD kinds n 0 ≡ 1 → j ≡ rank kinds n → r < 2 ^ 64 → ((t : ℕ) → t < 64 → bit r t ≡ not (eqb (getD v j 0) 0)) → r ≡ putAt kinds v words n
+  put-input n j r e q l h = rw (eq-eqb (getD kinds n 0) 1 e) (is-word 64 (λ t. given kinds v n) r l (λ t b. h t b ∙ given-input kinds v n j e q))
+
+  pub put-other : (n : ℕ) → ¬ (getD kinds n 0 ≡ 1) → getD words n 0 ≡ putAt kinds v words n
+  put-other n e = rw (ne-eqb (getD kinds n 0) 1 e)
+
+  -- once as many inputs stand ahead of net n as there are, all are put
+  pub all-put : (n : ℕ) (now : List ℕ) → rank kinds n ≡ rank kinds 256 → now ≡ listed (upto (putAt kinds v words) (λ i. getD words i 0) n) 256 → now ≡ inputsPut kinds v words
+  unfolding inputsPut
+  all-put n now e h = put-rest (putAt kinds v words) (λ i. getD words i 0) 256 n now h (λ m a b. put-other m (λ q. omega (arith, e, rank-up kinds n m a, rank-below kinds m 256 b q)))

@@ -1,28 +1,31 @@
 -- What a session that holds a card has for the loops over its arrays: the gates in their order, its inputs, the values of a vector, and a
 -- pass along the gates. Assumes nothing.
 use mathlib.Core.Path.{_≡_, refl, sym, ap, ap₂, _∙_, subst}
-use mathlib.Core.Bool.{Bool, false, cond, true≢false}
+use mathlib.Core.Bool.{Bool, true, false, cond, true≢false}
 use mathlib.Core.List.{List}
 use Prim.Native.Nat.{ℕ, _≤_, _<_}
 use native.Mathlib.Omega.{arith}
 use native.Mathlib.Decide.{decLt}
 use lib.Dec.{eqb}
 use lib.ListN.{length, getD}
-use Rattle.lists.specs.Entries.{_∈_}
+use Rattle.lists.specs.Entries.{_∈_, Distinct}
 use Rattle.lists.specs.Listed.{listed}
-use Rattle.lists.proofs.Listed.{listed-at, listed-past, in-listed}
+use Rattle.lists.proofs.Listed.{length-listed, listed-at, listed-past, in-listed}
+use Rattle.lists.proofs.Order.{sorted-at}
 use Rattle.lists.proofs.Number.{distinct-below}
 use Rattle.word.specs.Times.{count}
-use Rattle.word.specs.Word.{isOne}
+use Rattle.word.specs.Word.{isOne, bit, wordOf}
 use Rattle.word.proofs.Words.{one-val}
 use Rattle.word.proofs.Sets.{count-cong}
 use Rattle.rule.specs.Net.{Net, input, constant, gate, netAt, pins, pinsOf, isSource}
+use Rattle.rule.specs.Rule.{value}
 use Rattle.rule.specs.Steps.{gateOrder}
 use Rattle.rule.proofs.Nets.{not-open, gate-listed}
 use Rattle.rule.proofs.GateOrders.{out-order, order-once}
 use Rattle.wiring.specs.Layout.{Fits, kindOf, typeOf, kindsOf, typesOf}
 use Rattle.wiring.proofs.Layouts.{count-at, kind-at, kind-past, type-at}
 use Rattle.wiring.proofs.Orders.{padded-back}
+use Rattle.records.proofs.Heads.{type-single}
 use Rattle.card.specs.declared.Session.{Session}
 use Rattle.card.specs.Session.{cardOf, isInput}
 use Rattle.card.specs.Held.{HasCard}
@@ -30,16 +33,15 @@ use Rattle.card.proofs.Reading.{inputs-laid, inputs-all-counted}
 use Rattle.card.proofs.Kept.{inputs-are, gates-are, kinds-are, types-are, counts-are, places-are, order-is, card-fits}
 use Rattle.session.specs.Good.{histories}
 use Rattle.session.specs.Inputs.{isInputKind, rank, given, givenTo}
-use Rattle.session.specs.Fields.{Gates, passed, startAt, constantAt}
+use Rattle.session.specs.Fields.{Gates, topsOf, passed, inputsPut, advanced, startAt, constantAt}
 use Rattle.session.proofs.Vectors.{given-other}
 use Rattle.session.proofs.States.{net-past}
-use Rattle.session.proofs.Histories.{pass-histories}
+use Rattle.session.proofs.Histories.{pass-histories, flat-still, flat-ends, put-still, put-ends}
 
 -- a pass over the same arrays
-same-pass : (values : List Bool) {before before′ : List Bool} {types types′ counts counts′ places places′ kinds kinds′ order order′ : List ℕ}
-    → before ≡ before′ → types ≡ types′ → counts ≡ counts′ → places ≡ places′ → kinds ≡ kinds′ → order ≡ order′
-    → passed before types counts places (listed (startAt kinds values before) 256) order ≡ passed before′ types′ counts′ places′ (listed (startAt kinds′ values before′) 256) order′
-same-pass values a b d e f g = rw (a, b, d, e, f, g)
+same-pass : (start : List ℕ) {types types′ counts counts′ places places′ order order′ : List ℕ} → types ≡ types′ → counts ≡ counts′ → places ≡ places′ → order ≡ order′
+    → passed (topsOf start) types counts places start order ≡ passed (topsOf start) types′ counts′ places′ start order′
+same-pass start a b d e = rw (a, b, d, e)
 
 module _ (s : Session) (h : HasCard s) where
   abbrev c : List Net
@@ -53,13 +55,13 @@ module _ (s : Session) (h : HasCard s) where
   pub order-back : listed (λ i. getD (s .order) i 0) (s .gates) ≡ gateOrder c
   order-back = ap₂ (λ xs k. listed (λ i. getD xs i 0) k) (order-is s h) (gates-are s h) ∙ padded-back (gateOrder c) few-gates
 
-  gate-has : (g : ℕ) → isSource (netAt c g) ≡ false → (typeOf (netAt c g) < 8) × (0 < length (pins c g))
+  gate-has : (g : ℕ) → isSource (netAt c g) ≡ false → (typeOf (netAt c g) < 8) × (0 < length (pins c g)) × (typeOf (netAt c g) < 2 → length (pins c g) ≡ 1)
   gate-has g e = go (netAt c g) refl e
     where
-      go : (w : Net) → netAt c g ≡ w → isSource w ≡ false → (typeOf w < 8) × (0 < length (pinsOf w))
+      go : (w : Net) → netAt c g ≡ w → isSource w ≡ false → (typeOf w < 8) × (0 < length (pinsOf w)) × (typeOf w < 2 → length (pinsOf w) ≡ 1)
       go input q x = absurd (true≢false x)
       go (constant k) q x = absurd (true≢false x)
-      go (gate ty ps) q x = let r = card-fits s h .gates g ty ps q in (r .0, r .1)
+      go (gate ty ps) q x = let r = card-fits s h .gates g ty ps q in (r .0, r .1, λ l. type-single ty (length ps) (r .3) l)
 
   -- a gate's type, and what the arrays have of it
   pub gate-type : (g : ℕ) → isSource (netAt c g) ≡ false → getD (s .types) g 0 ≡ typeOf (netAt c g)
@@ -73,7 +75,15 @@ module _ (s : Session) (h : HasCard s) where
       let type = gate-type g e in
       let size : getD (s .counts) g 0 ≡ length (pins c g) = ap (λ xs. getD xs g 0) (counts-are s h) ∙ count-at c fits g below in
       let has = gate-has g e in
-      record { net = below; type = omega (arith, type, has .0); pinned = omega (arith, size, has .1) }
+      record { net = below; type = omega (arith, type, has .0); pinned = omega (arith, size, has .1); single = λ l. size ∙ has .2 (omega (arith, type)) }
+
+  -- no gate stands twice in the order
+  pub gates-once : (i j : ℕ) → i < j → j < s .gates → ¬ (getD (s .order) i 0 ≡ getD (s .order) j 0)
+  gates-once i j l m e =
+      let f : ℕ → ℕ = λ k. getD (s .order) k 0 in
+      let once : Distinct (listed f (s .gates)) = subst Distinct (sym order-back) (order-once c) in
+      let here : (k : ℕ) → k < s .gates → getD (listed f (s .gates)) k 0 ≡ f k = λ k b. listed-at f (s .gates) k 0 b in
+      sorted-at (λ x y. ¬ (x ≡ y)) (listed f (s .gates)) 0 i j l (omega (arith, length-listed f (s .gates))) once (here i (omega arith) ∙ e ∙ sym (here j m))
 
   pub gates-fit : (s .gates ≤ 256) × ((i : ℕ) → i < s .gates → Gates (s .types) (s .counts) (getD (s .order) i 0))
   gates-fit =
@@ -106,16 +116,39 @@ module _ (s : Session) (h : HasCard s) where
       let kind : (m : ℕ) → isInputKind (getD (s .kinds) m 0) ≡ isInput (netAt c m) = λ m. ap (λ ks. isInputKind (getD ks m 0)) (kinds-are s h) ∙ inputs-laid c (card-fits s h .fits) m in
       ap₂ (λ b k. cond b (isOne (getD v k 0)) false) (kind n) (count-cong (λ m. isInputKind (getD (s .kinds) m 0)) (λ m. isInput (netAt c m)) n (λ m l. kind m))
 
-  -- A pass along the gates leaves the rule's histories, where each constant has its value
+  -- A pass along the gates leaves the rule's histories
 
-  pub session-pass : (old : ℕ → Bool) (values before : List Bool) (start words : List ℕ) → ((n : ℕ) (k : Bool) → n < 256 → netAt c n ≡ constant k → old n ≡ k)
-      → before ≡ listed old 256 → start ≡ listed (startAt (s .kinds) values before) 256
-      → words ≡ passed before (s .types) (s .counts) (s .places) start (listed (λ i. getD (s .order) i 0) (s .gates))
-      → words ≡ histories c old (λ n. getD values n false)
-  session-pass old values before start words fixed eb es ew =
-      ew ∙ ap (λ xs. passed before (s .types) (s .counts) (s .places) xs (listed (λ i. getD (s .order) i 0) (s .gates))) es
-      ∙ same-pass values eb (types-are s h) (counts-are s h) (places-are s h) (kinds-are s h) order-back
-      ∙ pass-histories c (card-fits s h) (h .accepted .free) old values fixed
+  module _ (old new : ℕ → Bool) where
+    gates-pass : (start : List ℕ) → length start ≡ 256
+        → ((n : ℕ) → n < 256 → isSource (netAt c n) ≡ true → getD start n 0 ≡ wordOf 64 (value c old new n))
+        → ((n : ℕ) → n < 256 → isSource (netAt c n) ≡ false → bit (getD start n 0) 63 ≡ old n)
+        → passed (topsOf start) (s .types) (s .counts) (s .places) start (listed (λ i. getD (s .order) i 0) (s .gates)) ≡ histories c old new
+    gates-pass start long still ends =
+        same-pass start (types-are s h) (counts-are s h) (places-are s h) order-back ∙ pass-histories c (card-fits s h) (h .accepted .free) old new start long still ends
+
+    -- from the inputs' new values and the before values, where each constant has its value
+    pub session-pass : (values before : List Bool) (start words : List ℕ) → ((n : ℕ) (k : Bool) → n < 256 → netAt c n ≡ constant k → old n ≡ k)
+        → ((n : ℕ) → getD values n false ≡ new n) → before ≡ listed old 256 → start ≡ listed (startAt (s .kinds) values before) 256
+        → words ≡ passed (topsOf start) (s .types) (s .counts) (s .places) start (listed (λ i. getD (s .order) i 0) (s .gates))
+        → words ≡ histories c old new
+    session-pass values before start words fixed same eb es ew =
+        let flat = listed (startAt (kindsOf c) values (listed old 256)) 256 in
+        let e : start ≡ flat = es ∙ ap₂ (λ ks bs. listed (startAt ks values bs) 256) (kinds-are s h) eb in
+        let fits = card-fits s h .fits in
+        ew ∙ ap (λ xs. passed (topsOf xs) (s .types) (s .counts) (s .places) xs (listed (λ i. getD (s .order) i 0) (s .gates))) e
+        ∙ gates-pass flat (length-listed _ 256) (flat-still c old new fits values same fixed) (flat-ends c old new fits values same)
+
+    -- from the last vector's words, where each constant has its value
+    pub advance-pass : (v words : List ℕ) → ((n : ℕ) (k : Bool) → n < 256 → netAt c n ≡ constant k → getD words n 0 ≡ wordOf 64 (λ t. k))
+        → ((n : ℕ) → given (s .kinds) v n ≡ new n) → ((n : ℕ) → n < 256 → bit (getD words n 0) 63 ≡ old n)
+        → advanced (s .kinds) (s .types) (s .counts) (s .places) (listed (λ i. getD (s .order) i 0) (s .gates)) words v ≡ histories c old new
+    unfolding inputsPut
+    advance-pass v words fixed same ends =
+        let fits = card-fits s h .fits in
+        let same′ : (n : ℕ) → given (kindsOf c) v n ≡ new n = λ n. ap (λ ks. given ks v n) (sym (kinds-are s h)) ∙ same n in
+        ap (λ ks. advanced ks (s .types) (s .counts) (s .places) (listed (λ i. getD (s .order) i 0) (s .gates)) words v) (kinds-are s h)
+        ∙ gates-pass (inputsPut (kindsOf c) v words) (length-listed _ 256) (put-still c old new fits v words same′ fixed)
+        (λ n l e. put-ends c old new fits v words same′ n l e ∙ ends n l)
 
   -- a constant's value, in the arrays
   pub constant-held : (n : ℕ) (k : Bool) → n < 256 → netAt c n ≡ constant k → constantAt (getD (s .kinds) n 0) (getD (s .types) n 0) ≡ k

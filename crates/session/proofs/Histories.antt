@@ -1,5 +1,5 @@
 -- A pass along the gates' order leaves the rule's histories, from any before values in which each constant has its value. Assumes nothing.
-use mathlib.Core.Path.{_≡_, refl, sym, ap, _∙_}
+use mathlib.Core.Path.{_≡_, refl, sym, ap, ap₂, _∙_}
 use mathlib.Core.Bool.{Bool, true, false, cond, true≢false, false≢true}
 use mathlib.Core.List.{List, map, map-map}
 use mathlib.Core.Logic.{_⊎_, inl, inr}
@@ -7,12 +7,12 @@ use Prim.Native.Nat.{ℕ, zero, suc, _<_}
 use native.Mathlib.Omega.{arith}
 use native.Mathlib.Decide.{ℕ-discrete, decLt}
 use lib.Dec.{eqb, lit<}
-use lib.ListN.{length, getD}
+use lib.ListN.{length, getD, List·getD-eq-default}
 use borrow.Author.Tests.{eq-eqb, eqb-true}
 use Rattle.lists.specs.Entries.{_∈_}
 use Rattle.lists.specs.Listed.{listed}
 use Rattle.lists.proofs.Tests.{map-ext}
-use Rattle.lists.proofs.Listed.{listed-at, listed-past, listed-ext}
+use Rattle.lists.proofs.Listed.{listed-at, listed-ext}
 use Rattle.word.specs.Word.{bit, wordOf, movedUp}
 use Rattle.word.proofs.Bits.{bit-none}
 use Rattle.word.proofs.Words.{bit-word, is-word, word-ext}
@@ -26,13 +26,14 @@ use Rattle.rule.proofs.Nets.{at-open, at-net, net-open}
 use Rattle.rule.proofs.Runs.{run-right}
 use Rattle.rule.proofs.Values.{netFn, source-keeps, constant-is, gate-starts, moves}
 use Rattle.rule.proofs.GateOrders.{out-order, in-order, order-ready}
-use Rattle.wiring.specs.Layout.{typeOf, kindsOf, typesOf, countsOf, placesOf}
+use Rattle.wiring.specs.Layout.{Fits, typeOf, kindsOf, typesOf, countsOf, placesOf}
 use Rattle.wiring.proofs.Layouts.{pins-laid, type-at}
 use Rattle.records.proofs.Fitted.{Fitted}
 use Rattle.card.specs.Session.{isInput}
 use Rattle.card.proofs.Reading.{inputs-laid}
 use Rattle.session.specs.Good.{histories}
-use Rattle.session.specs.Fields.{fieldAt, pinWord, passed, startAt}
+use Rattle.session.specs.Inputs.{isInputKind, given}
+use Rattle.session.specs.Fields.{fieldOf, fieldAt, pinWord, topsOf, passed, inputsPut, startAt}
 use Rattle.session.proofs.States.{past-zero}
 
 -- the word that is 0 at every time
@@ -46,80 +47,123 @@ gate-fn input x vs e = absurd (true≢false e)
 gate-fn (constant k) x vs e = absurd (true≢false e)
 gate-fn (gate ty ps) x vs e = refl
 
+no-input : (w : Net) → isSource w ≡ false → isInput w ≡ false
+no-input input e = absurd (true≢false e)
+no-input (constant k) e = refl
+no-input (gate ty ps) e = refl
+
 -- what does not move: an input has its new value, a constant its own
 source-first : (w : Net) (new before : Bool) → isSource w ≡ true → ((k : Bool) → w ≡ constant k → before ≡ k) → cond (isInput w) new before ≡ first w new before
 source-first input new before e h = refl
 source-first (constant k) new before e h = h k refl
 source-first (gate ty ps) new before e h = absurd (false≢true e)
 
-module _ (c : List Net) (fit : Fitted c) (free : ¬ Looped c) (before : ℕ → Bool) (values : List Bool)
-    (fixed : (n : ℕ) (k : Bool) → n < 256 → netAt c n ≡ constant k → before n ≡ k) where
-  abbrev new : ℕ → Bool
-  new n = getD values n false
-
+-- the rule's histories from before values, and words that the pass starts from: they have the histories of what does not move, and end in the before
+-- values of the gates
+module _ (c : List Net) (fit : Fitted c) (free : ¬ Looped c) (before new : ℕ → Bool) (start : List ℕ) (long : length start ≡ 256)
+    (still : (n : ℕ) → n < 256 → isSource (netAt c n) ≡ true → getD start n 0 ≡ wordOf 64 (value c before new n))
+    (ends : (n : ℕ) → n < 256 → isSource (netAt c n) ≡ false → bit (getD start n 0) 63 ≡ before n) where
   -- a net's history
   abbrev word : ℕ → ℕ
   word n = wordOf 64 (value c before new n)
 
   abbrev fn : ℕ → List ℕ → ℕ
-  fn = fieldAt (listed before 256) (typesOf c)
-
-  abbrev words : List ℕ
-  words = listed (startAt (kindsOf c) values (listed before 256)) 256
+  fn = fieldAt (topsOf start) (typesOf c)
 
   -- "A gate's word is the function of its pins' words, moved up by one, with the before value in bit 0."
   gate-word : (n : ℕ) → isSource (netAt c n) ≡ false → n < length c → word n ≡ fn n (map word (pins c n))
-  unfolding fieldAt
-  gate-word n e l = word-ext 64 (value c before new n) (movedUp (getD (listed before 256) n false) (λ t. gateFn (getD (typesOf c) n 0) (map (λ w. bit w t) (map word (pins c n))))) at
+  unfolding fieldOf
+  gate-word n e l = word-ext 64 (value c before new n) (movedUp (getD (topsOf start) n false) (λ t. gateFn (getD (typesOf c) n 0) (map (λ w. bit w t) (map word (pins c n))))) at
     where
-      at : (t : ℕ) → t < 64 → value c before new n t ≡ movedUp (getD (listed before 256) n false) (λ t. gateFn (getD (typesOf c) n 0) (map (λ w. bit w t) (map word (pins c n)))) t
-      at zero b = let few = fit .fits .few in gate-starts c before new n e ∙ sym (listed-at before 256 n false (omega arith))
+      at : (t : ℕ) → t < 64 → value c before new n t ≡ movedUp (getD (topsOf start) n false) (λ t. gateFn (getD (typesOf c) n 0) (map (λ w. bit w t) (map word (pins c n)))) t
+      at zero b =
+          let few = fit .fits .few in
+          let here : n < 256 = omega arith in
+          gate-starts c before new n e ∙ sym (listed-at (λ n. bit (getD start n 0) 63) 256 n false here ∙ ends n here e)
       at (suc t) b =
           moves c before new n t
           ∙ gate-fn (netAt c n) (value c before new n 0) (map (λ p. value c before new p t) (pins c n)) e
           ∙ ap (λ ty. gateFn ty (map (λ p. value c before new p t) (pins c n))) (sym (type-at c (fit .fits) n l))
           ∙ ap (gateFn (getD (typesOf c) n 0)) (map-ext _ (λ p. bit (word p) t) (pins c n) (λ p. sym (bit-word 64 (value c before new p) t (omega arith))) ∙ sym (map-map (λ w. bit w t) word (pins c n)))
 
-  -- an input, a constant and what is past the card do not move
-  source-word : (n : ℕ) → isSource (netAt c n) ≡ true → wordOf 64 (λ t. first (netAt c n) (new n) (before n)) ≡ word n
-  unfolding value
-  source-word n e = word-ext 64 (λ t. first (netAt c n) (new n) (before n)) (value c before new n) (λ t l. sym (source-keeps c before new n t e))
-
-  start-right : (n : ℕ) → isSource (netAt c n) ≡ true → pinWord words n ≡ word n
-  unfolding startAt
+  start-right : (n : ℕ) → isSource (netAt c n) ≡ true → pinWord start n ≡ word n
   start-right n e = open-or-not (ℕ-discrete n openPin)
     where
-      here : n < 256 → startAt (kindsOf c) values (listed before 256) n ≡ word n
-      here l =
-          word-ext 64 _ (λ t. first (netAt c n) (new n) (before n))
-          (λ t b. ap (λ x. cond x (new n) (getD (listed before 256) n false)) (inputs-laid c (fit .fits) n)
-          ∙ ap (cond (isInput (netAt c n)) (new n)) (listed-at before 256 n false l)
-          ∙ source-first (netAt c n) (new n) (before n) e (λ k q. fixed n k l q))
-          ∙ source-word n e
-
-      net-or-past : ¬ (n ≡ openPin) → Dec (n < 256) → getD words n 0 ≡ word n
-      net-or-past q (yes l) = listed-at (startAt (kindsOf c) values (listed before 256)) 256 n 0 l ∙ here l
+      net-or-past : ¬ (n ≡ openPin) → Dec (n < 256) → getD start n 0 ≡ word n
+      net-or-past q (yes l) = still n l e
       net-or-past q (no l) =
           let few = fit .fits .few in
-          listed-past (startAt (kindsOf c) values (listed before 256)) 256 n 0 (omega arith)
+          List·getD-eq-default start 0 (omega (arith, long))
           ∙ zero-word ∙ word-ext 64 (λ t. false) (value c before new n) (λ t b. sym (past-zero c before new n t (omega arith) q))
 
-      open-or-not : Dec (n ≡ openPin) → pinWord words n ≡ word n
+      open-or-not : Dec (n ≡ openPin) → pinWord start n ≡ word n
       open-or-not (yes q) =
-          rw q (at-open (wordOf 64 (λ t. openValue)) (λ m. getD words m 0) ∙ word-ext 64 (λ t. openValue) (value c before new openPin) (λ t b. sym (constant-is c before new openPin t openValue (net-open c))))
-      open-or-not (no q) = at-net (wordOf 64 (λ t. openValue)) (λ m. getD words m 0) n q ∙ net-or-past q (decLt n 256)
+          rw q (at-open (wordOf 64 (λ t. openValue)) (λ m. getD start m 0) ∙ word-ext 64 (λ t. openValue) (value c before new openPin) (λ t b. sym (constant-is c before new openPin t openValue (net-open c))))
+      open-or-not (no q) = at-net (wordOf 64 (λ t. openValue)) (λ m. getD start m 0) n q ∙ net-or-past q (decLt n 256)
 
-  pub pass-histories : passed (listed before 256) (typesOf c) (countsOf c) (placesOf c) words (gateOrder c) ≡ histories c before new
+  pub pass-histories : passed (topsOf start) (typesOf c) (countsOf c) (placesOf c) start (gateOrder c) ≡ histories c before new
   unfolding passed histories
   pass-histories =
-      ap (λ ps. listed (run eqb ps fn (pinWord words) (gateOrder c)) 256) (pins-laid c (fit .fits))
-      ∙ listed-ext (run eqb (pins c) fn (pinWord words) (gateOrder c)) word 256 (λ n b. right n (known n (isSource (netAt c n)) refl))
+      ap (λ ps. listed (run eqb ps fn (pinWord start) (gateOrder c)) 256) (pins-laid c (fit .fits))
+      ∙ listed-ext (run eqb (pins c) fn (pinWord start) (gateOrder c)) word 256 (λ n b. right n (known n (isSource (netAt c n)) refl))
     where
       known : (n : ℕ) (b : Bool) → isSource (netAt c n) ≡ b → (b ≡ true) ⊎ (n ∈ gateOrder c)
       known n true e = inl refl
       known n false e = inr (in-order c free (fit .pinned) n e)
 
-      right : (n : ℕ) → (isSource (netAt c n) ≡ true) ⊎ (n ∈ gateOrder c) → run eqb (pins c) fn (pinWord words) (gateOrder c) n ≡ word n
+      right : (n : ℕ) → (isSource (netAt c n) ≡ true) ⊎ (n ∈ gateOrder c) → run eqb (pins c) fn (pinWord start) (gateOrder c) n ≡ word n
       right n =
           run-right eqb (pins c) eqb-true (λ g. eq-eqb g g refl) fn word (λ g. (isSource (netAt c g) ≡ false) × (g < length c)) (λ g o. gate-word g (o .0) (o .1))
-          (λ g. isSource (netAt c g)) (pinWord words) (gateOrder c) (out-order c) start-right (order-ready c free (fit .pinned)) n
+          (λ g. isSource (netAt c g)) (pinWord start) (gateOrder c) (out-order c) start-right (order-ready c free (fit .pinned)) n
+
+-- Words to start from
+
+module _ (c : List Net) (before new : ℕ → Bool) where
+  -- an input, a constant and what is past the card do not move
+  source-word : (n : ℕ) → isSource (netAt c n) ≡ true → wordOf 64 (λ t. first (netAt c n) (new n) (before n)) ≡ wordOf 64 (value c before new n)
+  unfolding value
+  source-word n e = word-ext 64 (λ t. first (netAt c n) (new n) (before n)) (value c before new n) (λ t l. sym (source-keeps c before new n t e))
+
+  module _ (fits : Fits c) where
+    -- the inputs' new values and the before values of all else, at every time
+    module _ (values : List Bool) (same : (n : ℕ) → getD values n false ≡ new n) where
+      abbrev flat : List ℕ
+      flat = listed (startAt (kindsOf c) values (listed before 256)) 256
+
+      flat-at : (n : ℕ) → n < 256 → getD flat n 0 ≡ wordOf 64 (λ t. cond (isInput (netAt c n)) (new n) (before n))
+      unfolding startAt
+      flat-at n l =
+          listed-at (startAt (kindsOf c) values (listed before 256)) 256 n 0 l
+          ∙ word-ext 64 _ _
+          (λ t b. ap (λ x. cond x (getD values n false) (getD (listed before 256) n false)) (inputs-laid c fits n)
+          ∙ ap₂ (cond (isInput (netAt c n))) (same n) (listed-at before 256 n false l))
+
+      pub flat-still : ((n : ℕ) (k : Bool) → n < 256 → netAt c n ≡ constant k → before n ≡ k) → (n : ℕ) → n < 256 → isSource (netAt c n) ≡ true
+          → getD flat n 0 ≡ wordOf 64 (value c before new n)
+      flat-still fixed n l e =
+          flat-at n l ∙ word-ext 64 _ (λ t. first (netAt c n) (new n) (before n)) (λ t b. source-first (netAt c n) (new n) (before n) e (λ k q. fixed n k l q)) ∙ source-word n e
+
+      pub flat-ends : (n : ℕ) → n < 256 → isSource (netAt c n) ≡ false → bit (getD flat n 0) 63 ≡ before n
+      flat-ends n l e =
+          ap (λ w. bit w 63) (flat-at n l) ∙ bit-word 64 (λ t. cond (isInput (netAt c n)) (new n) (before n)) 63 (lit< tt)
+          ∙ ap (λ x. cond x (new n) (before n)) (no-input (netAt c n) e)
+
+    -- the last vector's words, with the inputs' new values put
+    module _ (v words : List ℕ) (same : (n : ℕ) → given (kindsOf c) v n ≡ new n) where
+      put-at : (n : ℕ) → n < 256 → getD (inputsPut (kindsOf c) v words) n 0 ≡ cond (isInput (netAt c n)) (wordOf 64 (λ t. new n)) (getD words n 0)
+      unfolding inputsPut
+      put-at n l =
+          listed-at (λ n. cond (isInputKind (getD (kindsOf c) n 0)) (wordOf 64 (λ t. given (kindsOf c) v n)) (getD words n 0)) 256 n 0 l
+          ∙ ap₂ (λ x b. cond x (wordOf 64 (λ t. b)) (getD words n 0)) (inputs-laid c fits n) (same n)
+
+      pub put-still : ((n : ℕ) (k : Bool) → n < 256 → netAt c n ≡ constant k → getD words n 0 ≡ wordOf 64 (λ t. k)) → (n : ℕ) → n < 256 → isSource (netAt c n) ≡ true
+          → getD (inputsPut (kindsOf c) v words) n 0 ≡ wordOf 64 (value c before new n)
+      put-still fixed n l e = put-at n l ∙ go (netAt c n) refl e ∙ source-word n e
+        where
+          go : (w : Net) → netAt c n ≡ w → isSource w ≡ true → cond (isInput w) (wordOf 64 (λ t. new n)) (getD words n 0) ≡ wordOf 64 (λ t. first w (new n) (before n))
+          go input q x = refl
+          go (constant k) q x = fixed n k l q
+          go (gate ty ps) q x = absurd (false≢true x)
+
+      pub put-ends : (n : ℕ) → n < 256 → isSource (netAt c n) ≡ false → bit (getD (inputsPut (kindsOf c) v words) n 0) 63 ≡ bit (getD words n 0) 63
+      put-ends n l e = ap (λ w. bit w 63) (put-at n l ∙ ap (λ x. cond x (wordOf 64 (λ t. new n)) (getD words n 0)) (no-input (netAt c n) e))

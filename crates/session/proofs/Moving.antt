@@ -1,5 +1,5 @@
 -- A vector by fields moves a session as the rule says: from the last vector's end, and to a session of the same kind. Assumes nothing.
-use mathlib.Core.Path.{_≡_, sym, ap, ap₂, _∙_}
+use mathlib.Core.Path.{_≡_, refl, sym, ap, ap₂, _∙_}
 use mathlib.Core.Bool.{Bool, false}
 use mathlib.Core.List.{List}
 use Prim.Native.Nat.{ℕ, _<_}
@@ -9,8 +9,8 @@ use lib.ListN.{getD}
 use Rattle.lists.specs.Listed.{listed}
 use Rattle.lists.proofs.Listed.{listed-at}
 use Rattle.word.specs.Word.{bit, wordOf}
-use Rattle.word.proofs.Words.{bit-word}
-use Rattle.rule.specs.Net.{Net}
+use Rattle.word.proofs.Words.{bit-word, word-ext}
+use Rattle.rule.specs.Net.{Net, constant, netAt}
 use Rattle.rule.specs.Rule.{value, AtRest}
 use Rattle.rule.proofs.Values.{constant-is}
 use Rattle.rule.proofs.Rests.{ends-at-rest}
@@ -19,10 +19,11 @@ use Rattle.card.specs.Session.{cardOf, resting}
 use Rattle.card.specs.Held.{HasCard}
 use Rattle.card.proofs.Kept.{card-fits, card-level}
 use Rattle.session.specs.Good.{histories, Rested}
-use Rattle.session.specs.Fields.{passed, startAt}
+use Rattle.session.specs.Inputs.{given}
+use Rattle.session.specs.Fields.{topsOf, passed, advanced, startAt}
 use Rattle.session.specs.Moves.{ends, movedBy}
 use Rattle.session.proofs.States.{rest-same}
-use Rattle.session.proofs.Held.{session-pass}
+use Rattle.session.proofs.Held.{session-pass, advance-pass}
 
 -- a net's word in the histories
 pub history-at : (c : List Net) (before new : ℕ → Bool) (n t : ℕ) → n < 256 → t < 64 → bit (getD (histories c before new) n 0) t ≡ value c before new n t
@@ -45,10 +46,24 @@ module _ (s : Session) (h : HasCard s) (r : Rested s) where
       rest-same c (h .accepted .named) (λ n. value c (r .old) (r .new) n 63) (ends s) (λ n l. sym (ends-are n (omega arith)))
       (ends-at-rest c (h .accepted .free) (card-fits s h .pinned) (r .old) (r .new) 63 (card-level s h))
 
+  constant-ends : (n : ℕ) (k : Bool) → n < 256 → netAt c n ≡ constant k → ends s n ≡ k
+  constant-ends n k l e = ends-are n l ∙ constant-is c (r .old) (r .new) n 63 k e
+
   -- the before values, and the fields along the gates, are what a vector leaves
-  pub fields-move : (values b : List Bool) (start words : List ℕ) → b ≡ listed (λ n. bit (getD (s .words) n 0) 63) 256 → start ≡ listed (startAt (s .kinds) values b) 256
-      → words ≡ passed b (s .types) (s .counts) (s .places) start (listed (λ i. getD (s .order) i 0) (s .gates))
+  pub fields-move : (values b : List Bool) (start words : List ℕ) → b ≡ topsOf (s .words) → start ≡ listed (startAt (s .kinds) values b) 256
+      → words ≡ passed (topsOf start) (s .types) (s .counts) (s .places) start (listed (λ i. getD (s .order) i 0) (s .gates))
       → resting s (s .rested) b words ≡ movedBy s (λ n. getD values n false)
   unfolding movedBy ends
   fields-move values b start words eb es ew =
-      ap₂ (resting s (s .rested)) eb (session-pass s h (ends s) values b start words (λ n k l e. ends-are n l ∙ constant-is c (r .old) (r .new) n 63 k e) eb es ew)
+      ap₂ (resting s (s .rested)) eb (session-pass s h (ends s) (λ n. getD values n false) values b start words constant-ends (λ n. refl) eb es ew)
+
+  -- and so are the fields along the gates from the last vector's words
+  pub words-move : (v : List ℕ) → advanced (s .kinds) (s .types) (s .counts) (s .places) (listed (λ i. getD (s .order) i 0) (s .gates)) (s .words) v
+      ≡ movedBy s (given (s .kinds) v) .words
+  unfolding movedBy ends histories
+  words-move v = advance-pass s h (ends s) (given (s .kinds) v) v (s .words) constant-word (λ n. refl) (λ n l. refl)
+    where
+      constant-word : (n : ℕ) (k : Bool) → n < 256 → netAt c n ≡ constant k → getD (s .words) n 0 ≡ wordOf 64 (λ t. k)
+      constant-word n k l e =
+          ap (λ ws. getD ws n 0) (r .words-are) ∙ listed-at (λ m. wordOf 64 (value c (r .old) (r .new) m)) 256 n 0 l
+          ∙ word-ext 64 (value c (r .old) (r .new) n) (λ t. k) (λ t b. constant-is c (r .old) (r .new) n t k e)

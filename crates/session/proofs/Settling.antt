@@ -1,5 +1,5 @@
 -- A rest puts every net at its settled value, from any start, and leaves a session of the same kind. Assumes nothing.
-use mathlib.Core.Path.{_≡_, sym, ap, ap₂, _∙_}
+use mathlib.Core.Path.{_≡_, refl, sym, ap, ap₂, _∙_}
 use mathlib.Core.Bool.{Bool, true, false}
 use mathlib.Core.List.{List}
 use Prim.Native.Nat.{ℕ, _<_}
@@ -20,7 +20,7 @@ use Rattle.card.specs.Session.{cardOf, resting}
 use Rattle.card.specs.Held.{HasCard}
 use Rattle.card.proofs.Kept.{card-fits, card-level}
 use Rattle.session.specs.Good.{histories}
-use Rattle.session.specs.Fields.{passed, startAt, constantAt}
+use Rattle.session.specs.Fields.{topsOf, passed, startAt, constantAt}
 use Rattle.session.specs.Moves.{settled, restedBy}
 use Rattle.session.proofs.States.{past-zero, rest-stays}
 use Rattle.session.proofs.Held.{session-pass, constant-held}
@@ -65,8 +65,8 @@ module _ (s : Session) (h : HasCard s) where
   -- the fields along the gates, from the constants, end in what a rest leaves
   pub fields-settle : (values constants before : List Bool) (start words flat : List ℕ)
       → constants ≡ listed (λ n. constantAt (getD (s .kinds) n 0) (getD (s .types) n 0)) 256 → start ≡ listed (startAt (s .kinds) values constants) 256
-      → words ≡ passed constants (s .types) (s .counts) (s .places) start (listed (λ i. getD (s .order) i 0) (s .gates))
-      → before ≡ listed (λ n. bit (getD words n 0) 63) 256 → flat ≡ listed (λ n. wordOf 64 (λ t. getD before n false)) 256
+      → words ≡ passed (topsOf start) (s .types) (s .counts) (s .places) start (listed (λ i. getD (s .order) i 0) (s .gates))
+      → before ≡ topsOf words → flat ≡ listed (λ n. wordOf 64 (λ t. getD before n false)) 256
       → resting s true before flat ≡ restedBy s (λ n. getD values n false)
   unfolding restedBy
   fields-settle values constants before start words flat ec es ew eb ef = ap₂ (resting s true) settled-before settled-words
@@ -78,7 +78,7 @@ module _ (s : Session) (h : HasCard s) where
       old n = constantAt (getD (s .kinds) n 0) (getD (s .types) n 0)
 
       left : words ≡ histories c old new
-      left = session-pass s h old values constants start words (constant-held s h) ec es ew
+      left = session-pass s h old new values constants start words (constant-held s h) (λ n. refl) ec es ew
 
       settled-before : before ≡ listed (settled c new) 256
       settled-before =

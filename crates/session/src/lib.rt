@@ -7,13 +7,14 @@ ghost use lib.ListN.{length, getD};
 ghost use Rattle.lists.specs.Entries.{every};
 ghost use Rattle.lists.specs.Listed.{listed};
 ghost use Rattle.word.specs.Word.{bit, wordOf};
+ghost use Rattle.gate.specs.Pins.{byPins};
 ghost use Rattle.rule.specs.Net.{openValue};
 ghost use Rattle.wiring.specs.Layout.{pinsAt};
 ghost use Rattle.wiring.specs.Wires.{Wires, Fitting};
 ghost use Rattle.card.specs.Session.{resting};
 ghost use Rattle.session.specs.Good.{Good};
 ghost use Rattle.session.specs.Inputs.{isInputKind, byteFits, rank, given, inputsRead};
-ghost use Rattle.session.specs.Fields.{Gates, fieldAt, pinWord, passed, startAt, constantAt};
+ghost use Rattle.session.specs.Fields.{Gates, fieldOf, pinWord, topsOf, passed, inputsPut, advanced, startAt, constantAt};
 ghost use Rattle.session.specs.Moves.{refusedMove, movedBy, vectorOf, restedBy, restOf};
 use card::Session;
 use rule::Answer;
@@ -104,34 +105,42 @@ pub fn open_word() -> u64
     word::spread(rule::open_value())
 }
 
-// The words of the pins of gate g.
+// What the pins of gate g, of type ty, come to by the words.
 fn gather<'a>(
     words: &[u64; 256],
     counts: &'a [u8; 256],
     places: &'a [u16; 2048],
     n: usize,
+    ty: usize,
     g: usize,
-) -> [u64; 8]
+) -> u64
     requires { ⌜ Wires (now counts) (now places) n ⌝ }
     requires { ⌜ Fitting (now counts) (now places) n ⌝ }
-    requires { ⌜ g < 256 ⌝ }
-    ensures { λ r. ⌜ listed (λ i. getD r i 0) (getD (now (counts .entry)) g 0) ≡ map (pinWord (now (words .entry))) (pinsAt (now (counts .entry)) (now (places .entry)) g) ⌝ }
+    requires { ⌜ (g < 256) × (ty < 8) ⌝ }
+    ensures { λ r. ⌜ ((t : ℕ) → t < 64 → bit r t ≡ byPins ty (map (λ w. bit w t) (map (pinWord (now (words .entry))) (pinsAt (now (counts .entry)) (now (places .entry)) g)))) ⌝ }
 {
     let count = wiring::wide(counts[g]);
     let open = open_word();
-    let mut out = [0u64; 8];
+    let mut known: u64 = 0;
     let mut j: usize = 0;
     while j < count {
-        out[j] = wiring::at_pin(words, places[g * 8 + j], open);
+        known = gate::with_pin(ty, known, wiring::at_pin(words, places[g * 8 + j], open));
         j += 1;
     }
-    out
+    known
 }
 
-// The field of gate g: its word of its pins' words, moved up by one, with its before value in bit 0.
+// A word's value at time 63.
+fn top(word: u64) -> bool
+    ensures { λ r. ⌜ r ≡ bit word 63 ⌝ }
+{
+    let w = word::PcSet { word };
+    w.has(63)
+}
+
+// The field of gate g: its word of its pins' words, moved up by one, with its before value in bit 0. Its own word still ends in it.
 fn field_of<'a>(
     words: &[u64; 256],
-    before: &'a [bool; 256],
     types: &'a [u8; 256],
     counts: &'a [u8; 256],
     places: &'a [u16; 2048],
@@ -141,21 +150,16 @@ fn field_of<'a>(
     requires { ⌜ Wires (now counts) (now places) n ⌝ }
     requires { ⌜ Fitting (now counts) (now places) n ⌝ }
     requires { ⌜ Gates (now types) (now counts) g ⌝ }
-    ensures { λ r. ⌜ r ≡ fieldAt (now (before .entry)) (now (types .entry)) g (map (pinWord (now (words .entry))) (pinsAt (now (counts .entry)) (now (places .entry)) g)) ⌝ }
+    ensures { λ r. ⌜ r ≡ fieldOf (bit (getD (now (words .entry)) g 0) 63) (getD (now (types .entry)) g 0) (map (pinWord (now (words .entry))) (pinsAt (now (counts .entry)) (now (places .entry)) g)) ⌝ }
 {
-    let pins = gather(words, counts, places, n, g);
-    gate::field(
-        wiring::wide(types[g]),
-        &pins,
-        wiring::wide(counts[g]),
-        before[g],
-    )
+    let ty = wiring::wide(types[g]);
+    let all = gather(words, counts, places, n, ty, g);
+    gate::field(ty, all, top(words[g]))
 }
 
-// The fields of the gates, along their order.
+// The fields of the gates, along their order, from words that end in the before values.
 fn pass<'a>(
     words: &mut [u64; 256],
-    before: &'a [bool; 256],
     types: &'a [u8; 256],
     counts: &'a [u8; 256],
     places: &'a [u16; 2048],
@@ -166,15 +170,55 @@ fn pass<'a>(
     requires { ⌜ Wires (now counts) (now places) n ⌝ }
     requires { ⌜ Fitting (now counts) (now places) n ⌝ }
     requires { ⌜ (gates ≤ 256) × ((i : ℕ) → i < gates → Gates (now types) (now counts) (getD (now order) i 0)) ⌝ }
+    requires { ⌜ ((i j : ℕ) → i < j → j < gates → ¬ (getD (now order) i 0 ≡ getD (now order) j 0)) ⌝ }
     requires { ⌜ length (now words) ≡ 256 ⌝ }
-    ensures { λ r. ⌜ now (words .exit) ≡ passed (now (before .entry)) (now (types .entry)) (now (counts .entry)) (now (places .entry)) (now (words .entry)) (listed (λ i. getD (now (order .entry)) i 0) gates) ⌝ }
+    ensures { λ r. ⌜ now (words .exit) ≡ passed (topsOf (now (words .entry))) (now (types .entry)) (now (counts .entry)) (now (places .entry)) (now (words .entry)) (listed (λ i. getD (now (order .entry)) i 0) gates) ⌝ }
 {
     let mut i: usize = 0;
     while i < gates {
         let g = wiring::wide16(order[i]);
-        words[g] = field_of(words, before, types, counts, places, n, g);
+        words[g] = field_of(words, types, counts, places, n, g);
         i += 1;
     }
+}
+
+// A vector's values in the inputs' words, at every time: input j has byte j.
+fn put_inputs<'a>(words: &mut [u64; 256], kinds: &'a [u8; 256], v: &'a [u8])
+    requires { ⌜ (length (now v) ≡ rank (now kinds) 256) × (length (now words) ≡ 256) ⌝ }
+    ensures { λ r. ⌜ now (words .exit) ≡ inputsPut (now (kinds .entry)) (now (v .entry)) (now (words .entry)) ⌝ }
+{
+    let mut n: usize = 0;
+    let mut j: usize = 0;
+    while j < v.len() {
+        if kinds[n] == 1 {
+            words[n] = word::spread(v[j] != 0);
+            j += 1;
+        }
+        n += 1;
+    }
+}
+
+// The words that a vector leaves, of words that end in the before values.
+pub fn advance<'a>(
+    words: &mut [u64; 256],
+    kinds: &'a [u8; 256],
+    types: &'a [u8; 256],
+    counts: &'a [u8; 256],
+    places: &'a [u16; 2048],
+    n: usize,
+    order: &'a [u16; 256],
+    gates: usize,
+    v: &'a [u8],
+)
+    requires { ⌜ Wires (now counts) (now places) n ⌝ }
+    requires { ⌜ Fitting (now counts) (now places) n ⌝ }
+    requires { ⌜ (gates ≤ 256) × ((i : ℕ) → i < gates → Gates (now types) (now counts) (getD (now order) i 0)) ⌝ }
+    requires { ⌜ ((i j : ℕ) → i < j → j < gates → ¬ (getD (now order) i 0 ≡ getD (now order) j 0)) ⌝ }
+    requires { ⌜ (length (now v) ≡ rank (now kinds) 256) × (length (now words) ≡ 256) ⌝ }
+    ensures { λ r. ⌜ now (words .exit) ≡ advanced (now (kinds .entry)) (now (types .entry)) (now (counts .entry)) (now (places .entry)) (listed (λ i. getD (now (order .entry)) i 0) gates) (now (words .entry)) (now (v .entry)) ⌝ }
+{
+    put_inputs(words, kinds, v);
+    pass(words, types, counts, places, n, order, gates);
 }
 
 // The word that net n has ahead of a pass.
@@ -207,13 +251,12 @@ pub fn start<'a>(
 
 // The values at time 63.
 pub fn tops(words: &[u64; 256]) -> [bool; 256]
-    ensures { λ r. ⌜ r ≡ listed (λ n. bit (getD (now (words .entry)) n 0) 63) 256 ⌝ }
+    ensures { λ r. ⌜ r ≡ topsOf (now (words .entry)) ⌝ }
 {
     let mut out = [false; 256];
     let mut n: usize = 0;
     while n < 256 {
-        let w = word::PcSet { word: words[n] };
-        out[n] = w.has(63);
+        out[n] = top(words[n]);
         n += 1;
     }
     out
@@ -268,7 +311,6 @@ pub fn run_fields(s: Session, values: &[bool; 256]) -> Session
     let mut words = start(&s.kinds, values, &before);
     pass(
         &mut words,
-        &before,
         &s.types,
         &s.counts,
         &s.places,
@@ -289,7 +331,6 @@ fn settle(s: Session, values: &[bool; 256]) -> Session
     let mut words = start(&s.kinds, values, &constants);
     pass(
         &mut words,
-        &constants,
         &s.types,
         &s.counts,
         &s.places,

@@ -30,8 +30,8 @@ run-many-requires c κs =
     let a = start .args in
     let asks = many-asks (a .s) (a .vectors .now) (length (a .words .now)) _ (sym (j .judge-many .ensures) ∙ v .verdict .given .1) in
     let h = start .pre .0 .card (start .pre .0 .rest (asks .0) .0) in
-    let bytes = le-div-iff-mul-le (inputs-some (a .s) h .0) .0 (le-of-eq (asks .1)) in
-    (start .pre .0, (bytes, omega (arith, nets-are (a .s) h, h .accepted .legible .few), asks .2))
+    let bytes = le-div-iff-mul-le (inputs-some (a .s) h .0) .0 (le-of-eq (asks .2)) in
+    (start .pre .0, ((asks .0, asks .1), (bytes, omega (arith, nets-are (a .s) h, h .accepted .legible .few), asks .3)))
 
 keep-many-requires : tie.Need-keep-many-requires
 keep-many-requires c κs =
@@ -41,7 +41,7 @@ keep-many-requires c κs =
     let a = start .args in
     let asks = many-asks (a .s) (a .vectors .now) (length (a .words .now)) _ (sym (j .judge-many .ensures) ∙ v .verdict .given .1) in
     let h = start .pre .0 .card (start .pre .0 .rest (asks .0) .0) in
-    let bytes = le-div-iff-mul-le (inputs-some (a .s) h .0) .0 (le-of-eq (asks .1)) in
+    let bytes = le-div-iff-mul-le (inputs-some (a .s) h .0) .0 (le-of-eq (asks .2)) in
     (start .pre .1, bytes)
 
 returns : tie.Need-returns

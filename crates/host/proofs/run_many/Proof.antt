@@ -1,109 +1,136 @@
--- `host::run_many` meets its contract. The loop's invariant: so many vectors are done, and their words put. The measure is what is left of them. Assumes nothing.
-use mathlib.Core.Path.{_≡_, refl, sym, ap, ap₂, subst, _∙_}
+-- `host::run_many` meets its contract. The loop's invariant: the words are those of the session that so many vectors leave, and theirs are put. The measure is what is left
+-- of them. Assumes nothing.
+use mathlib.Core.Path.{_≡_, refl, sym, ap, subst, _∙_}
 use Prim.Native.Nat.{_+_, _-_, _*_, _≤_}
 use native.Mathlib.Nat.{zero-mul}
 use native.Mathlib.Omega.{arith}
-use lib.ListN.{length, take, drop}
-use Rattle.session.specs.Good.{Good}
-use Rattle.session.specs.Moves.{vectorOf}
-use Rattle.session.proofs.Kept.{vector-good}
+use lib.ListN.{length, getD, take, drop}
+use borrow.Author.Needs.{needs}
+use Rattle.lists.specs.Listed.{listed}
+use Rattle.card.specs.Held.{HasCard}
+use Rattle.card.proofs.Kept.{card-wires, card-fitting}
+use Rattle.session.specs.Fields.{advanced}
+use Rattle.session.proofs.Held.{gates-fit, gates-once, inputs-ranked}
 use Rattle.host.specs.Places.{part, area}
 use Rattle.host.specs.Many.{manyRun}
 use Rattle.host.proofs.Making.{part-of}
-use Rattle.host.proofs.Many.{turn-next, turn-fits, many-more, many-length}
-use borrow.Author.Needs.{needs}
+use Rattle.host.proofs.Many.{turn-next, turn-fits, many-more, many-length, many-vector, left-long, next-words}
 use Rattle.host.proofs.run_many.Statement.{statement}
 use Rattle.host.proofs.run_many.Tie as tie
 
 abbrev Inv-loop : tie.InvT-loop
-Inv-loop vectors n k room₀ session₀ nets done₀ from₀ at₀ room session done from at = (done ≤ k) × (from ≡ done * n) × (at ≡ done * session₀ .nets) × Good session × (session ≡ manyRun session₀ vectors n done room₀ .session) × (room ≡ manyRun session₀ vectors n done room₀ .words)
+Inv-loop vectors k room₀ s n nets words₀ done₀ from₀ at₀ room words done from at =
+    (done ≤ k) × (from ≡ done * s .inputs) × (at ≡ done * s .nets) × (words ≡ manyRun s vectors (s .inputs) done room₀ .session .words) × (room ≡ manyRun s vectors (s .inputs) done room₀ .words)
 
 abbrev μ-loop : tie.MeasureT-loop
-μ-loop vectors n k room₀ session₀ nets done₀ from₀ at₀ room session done from at = k - done
+μ-loop vectors k room₀ s n nets words₀ done₀ from₀ at₀ room words done from at = k - done
+
+-- a rested session holds a card
+card : (c : tie.Start Inv-loop μ-loop) → HasCard (c .args .t1)
+card c = c .pre .0 .card (c .pre .0 .rest (c .pre .1 .0 .0) .0)
 
 loop-holds : tie.Need-loop-holds Inv-loop μ-loop
 unfolding manyRun
-loop-holds c = let s = c .before .before in (omega arith, sym (zero-mul (s .args .n)), sym (zero-mul (s .args .s .nets)), s .pre .0, refl, refl)
+loop-holds c = let s = c .before .before .before .args .t1 in (omega arith, sym (zero-mul (s .inputs)), sym (zero-mul (s .nets)), refl, refl)
 
 -- the bytes of the next vector, and the room for its words, are there
-bytes-there : (c : tie.In-loop Inv-loop μ-loop) → c .before .loop .from + c .before .before .before .before .args .n ≤ length (c .before .before .before .before .args .vectors .now)
-bytes-there c =
-    let l = c .before .loop in
-    let start = c .before .before .before .before in
-    subst (λ x. x + start .args .n ≤ length (start .args .vectors .now)) (sym (l .inv .1)) (turn-fits (l .done) (start .args .k) (start .args .n) _ (c .loop-test .taken) (start .pre .1 .0))
+bytes-fit : (c : tie.In-loop Inv-loop μ-loop) → c .before .loop .done * c .before .before .before .before .before .args .t1 .inputs + c .before .before .before .before .before .args .t1 .inputs ≤ length (c .before .before .before .before .before .args .vectors .now)
+bytes-fit c = let a = c .before .before .before .before .before in turn-fits (c .before .loop .done) (a .args .k) (a .args .t1 .inputs) _ (c .loop-test .taken) (a .pre .1 .1 .0)
 
-words-there : (c : tie.In-loop Inv-loop μ-loop) → c .before .loop .at + c .before .before .before .before .args .s .nets ≤ length (c .before .before .before .before .args .room .now)
+bytes-there : (c : tie.In-loop Inv-loop μ-loop) → c .before .loop .from + c .before .before .before .before .before .args .t1 .inputs ≤ length (c .before .before .before .before .before .args .vectors .now)
+bytes-there c = subst (λ x. x + c .before .before .before .before .before .args .t1 .inputs ≤ length (c .before .before .before .before .before .args .vectors .now)) (sym (c .before .loop .inv .1)) (bytes-fit c)
+
+words-there : (c : tie.In-loop Inv-loop μ-loop) → c .before .loop .at + c .before .before .before .before .before .args .t1 .nets ≤ length (c .before .before .before .before .before .args .room .now)
 words-there c =
     let l = c .before .loop in
-    let start = c .before .before .before .before in
-    let a = start .args in
-    subst (λ x. x + a .s .nets ≤ length (a .room .now)) (sym (l .inv .2)) (turn-fits (l .done) (a .k) (a .s .nets) _ (c .loop-test .taken) (start .pre .1 .2))
+    let a = c .before .before .before .before .before in
+    subst (λ x. x + a .args .t1 .nets ≤ length (a .args .room .now)) (sym (l .inv .2)) (turn-fits (l .done) (a .args .k) (a .args .t1 .nets) _ (c .loop-test .taken) (a .pre .1 .1 .2))
 
-room-there : (c : tie.In-loop Inv-loop μ-loop) → c .before .loop .at + c .before .before .before .before .args .s .nets ≤ length (c .before .loop .room)
+room-there : (c : tie.In-loop Inv-loop μ-loop) → c .before .loop .at + c .before .before .before .before .before .args .t1 .nets ≤ length (c .before .loop .room)
 room-there c =
     let l = c .before .loop in
-    let start = c .before .before .before .before in
-    let a = start .args in
-    let same : length (l .room) ≡ length (a .room .now) = ap length (l .inv .5) ∙ many-length (a .s) (a .vectors .now) (a .n) (l .done) (a .room .now) in
-    subst (λ x. l .at + a .s .nets ≤ x) (sym same) (words-there c)
+    let a = c .before .before .before .before .before .args in
+    let same : length (l .room) ≡ length (a .room .now) = ap length (l .inv .4) ∙ many-length (a .t1) (a .vectors .now) (a .t1 .inputs) (l .done) (a .room .now) in
+    subst (λ x. l .at + a .t1 .nets ≤ x) (sym same) (words-there c)
 
-add-moved : tie.Need-add-moved Inv-loop μ-loop
-add-moved c = let b = bytes-there c in search needs
+-- the bytes that are lent are the next vector's
+bytes-are : (c : tie.In-loop Inv-loop μ-loop)
+    → (let x = c .before .loop .from in take (x + c .before .before .before .before .before .args .t1 .inputs - x) (drop x (c .before .before .before .before .before .args .vectors .now))) ≡ part (c .before .before .before .before .before .args .vectors .now) (c .before .loop .done * c .before .before .before .before .before .args .t1 .inputs) (c .before .before .before .before .before .args .t1 .inputs)
+bytes-are c =
+    let a = c .before .before .before .before .before .args in
+    let n = a .t1 .inputs in
+    ap (λ x. take (x + n - x) (drop x (a .vectors .now))) (c .before .loop .inv .1) ∙ part-of (a .vectors .now) (c .before .loop .done * n) n
 
-sub-moved : tie.Need-sub-moved Inv-loop μ-loop
-sub-moved c = search needs
+add-advance : tie.Need-add-advance Inv-loop μ-loop
+add-advance c = let b = bytes-there (c .before .before .before .before .before .before .before) in search needs
 
-part-moved-start : tie.Need-part-moved-start Inv-loop μ-loop
-part-moved-start c = search needs
+sub-advance : tie.Need-sub-advance Inv-loop μ-loop
+sub-advance c = search needs
 
-part-moved-end : tie.Need-part-moved-end Inv-loop μ-loop
-part-moved-end c = let b = bytes-there c in search needs
+part-advance-start : tie.Need-part-advance-start Inv-loop μ-loop
+part-advance-start c = search needs
 
-moved-requires : tie.Need-moved-requires Inv-loop μ-loop
-moved-requires c κs = c .before .before .loop .inv .3
+part-advance-end : tie.Need-part-advance-end Inv-loop μ-loop
+part-advance-end c = let b = bytes-there (c .before .before .before .before .before .before .before) in search needs
+
+advance-requires : tie.Need-advance-requires Inv-loop μ-loop
+advance-requires c κs =
+    let i = c .before .before .before .before .before .before .before .before in
+    let l = i .before .loop in
+    let a = i .before .before .before .before .before in
+    let s = a .args .t1 in
+    let h = card a in
+    let fits = bytes-fit i in
+    let size = ap length (bytes-are i) ∙ many-vector (a .args .vectors .now) (s .inputs) (l .done) (a .pre .1 .0 .1) fits .size ∙ inputs-ranked s h in
+    let long = ap length (l .inv .3) ∙ left-long s (a .pre .0) (a .pre .1 .0 .0) (a .args .vectors .now) (a .args .room .now) (a .pre .1 .0 .1) (l .done) (omega (arith, fits)) in
+    (card-wires s h, (card-fitting s h, (gates-fit s h, (gates-once s h, (size, long)))))
 
 put-words-requires : tie.Need-put-words-requires Inv-loop μ-loop
-put-words-requires c κs = (c .before .before .before .before .before .before .before .before .before .pre .1 .1, room-there (c .before .before .before .before .before))
+put-words-requires c κs = (c .before .before .before .before .before .before .before .before .before .before .before .before .before .before .before .before .pre .1 .1 .1, room-there (c .before .before .before .before .before .before .before .before .before .before .before))
 
 add-done : tie.Need-add-done Inv-loop μ-loop
 add-done c = search needs
 
 add-from : tie.Need-add-from Inv-loop μ-loop
-add-from c = let b = bytes-there (c .before .before .before .before .before .before .before .before) in search needs
+add-from c = let b = bytes-there (c .before .before .before .before .before .before .before .before .before .before .before .before .before .before) in search needs
 
 add-at : tie.Need-add-at Inv-loop μ-loop
-add-at c = let b = words-there (c .before .before .before .before .before .before .before .before) in search needs
+add-at c = let b = words-there (c .before .before .before .before .before .before .before .before .before .before .before .before .before .before) in search needs
 
 loop-less : tie.Need-loop-less Inv-loop μ-loop
 loop-less c = search needs
 
 loop-again : tie.Need-loop-again Inv-loop μ-loop
 loop-again c =
-    let p = c .before .before in
-    let m = p .before .before .before .before in
-    let i = m .before .before in
+    let i = c .before .before .before .before .before .before .before .before .before .before .before .before .before .before in
     let l = i .before .loop in
-    let start = i .before .before .before .before in
-    let a = start .args in
-    let next = m .moved .ensures ∙ ap₂ (λ x y. vectorOf x y .session) (l .inv .4) (ap (λ x. take (x + a .n - x) (drop x (a .vectors .now))) (l .inv .1) ∙ part-of (a .vectors .now) (l .done * a .n) (a .n)) in
-    let more = many-more (a .s) (a .vectors .now) (a .n) (l .done) (a .room .now) in (
+    let a = i .before .before .before .before .before in
+    let s = a .args .t1 in
+    let vs = a .args .vectors .now in
+    let room = a .args .room .now in
+    let order = listed (λ k. getD (s .order) k 0) (s .gates) in
+    let next =
+        c .before .before .before .before .before .advance .ensures
+        ∙ ap (advanced (s .kinds) (s .types) (s .counts) (s .places) order (l .words)) (bytes-are i)
+        ∙ ap (λ ws. advanced (s .kinds) (s .types) (s .counts) (s .places) order ws (part vs (l .done * s .inputs) (s .inputs))) (l .inv .3)
+        ∙ next-words s (a .pre .0) (a .pre .1 .0 .0) vs room (a .pre .1 .0 .1) (l .done) (bytes-fit i) in
+    let more = many-more s vs (s .inputs) (l .done) room in (
       omega (arith, i .loop-test .taken),
-      ap (λ x. x + a .n) (l .inv .1) ∙ turn-next (l .done) (a .n),
-      ap (λ x. x + a .s .nets) (l .inv .2) ∙ turn-next (l .done) (a .s .nets),
-      subst Good (sym (m .moved .ensures)) (vector-good (l .session) (l .inv .3) _),
-      next ∙ sym (ap (λ x. x .session) more),
-      p .put-words .ensures ∙ (λ z. area (l .inv .5 z) (l .inv .2 z) (l .inv .2 z + a .s .nets) (next z .words)) ∙ sym (ap (λ x. x .words) more),
+      ap (λ x. x + s .inputs) (l .inv .1) ∙ turn-next (l .done) (s .inputs),
+      ap (λ x. x + s .nets) (l .inv .2) ∙ turn-next (l .done) (s .nets),
+      next ∙ sym (ap (λ x. x .session .words) more),
+      c .before .before .put-words .ensures ∙ (λ z. area (l .inv .4 z) (l .inv .2 z) (l .inv .2 z + s .nets) (next z)) ∙ sym (ap (λ x. x .words) more),
     )
 
 same-length : tie.Need-same-length Inv-loop μ-loop
-same-length c = let l = c .before .loop in let a = c .before .before .before .before .args in ap length (l .inv .5) ∙ many-length (a .s) (a .vectors .now) (a .n) (l .done) (a .room .now)
+same-length c = let l = c .before .loop in let a = c .before .before .before .before .before .args in ap length (l .inv .4) ∙ many-length (a .t1) (a .vectors .now) (a .t1 .inputs) (l .done) (a .room .now)
 
 returns : tie.Need-returns Inv-loop μ-loop
 returns c =
     let l = c .before .loop in
-    let a = c .before .before .before .before .args in
+    let a = c .before .before .before .before .before .args in
     let e : l .done ≡ a .k = omega (arith, l .inv .0, c .loop-test .left) in
-    l .inv .5 ∙ ap (λ j. manyRun (a .s) (a .vectors .now) (a .n) j (a .room .now) .words) e
+    l .inv .4 ∙ ap (λ j. manyRun (a .t1) (a .vectors .now) (a .t1 .inputs) j (a .room .now) .words) e
 
 pub run-many-spec : {M : Type 1} → statement M
 run-many-spec =
@@ -112,11 +139,11 @@ run-many-spec =
     Inv-loop
     μ-loop
     loop-holds
-    add-moved
-    sub-moved
-    part-moved-start
-    part-moved-end
-    moved-requires
+    add-advance
+    sub-advance
+    part-advance-start
+    part-advance-end
+    advance-requires
     put-words-requires
     add-done
     add-from

@@ -1,15 +1,16 @@
--- `session::field_of` meets its contract: the gate's field of the words that its pins gather. Assumes nothing.
-use mathlib.Core.Path.{refl, ap, _∙_}
+-- `session::field_of` meets its contract: the gate's field of what its pins come to. Assumes nothing.
+use mathlib.Core.Path.{_≡_, ap₂, _∙_}
+use mathlib.Core.List.{map}
+use Prim.Native.Nat.{_<_}
 use native.Mathlib.Omega.{arith}
-use lib.ListN.{getD}
+use lib.ListN.{length, getD, length-map}
 use borrow.Author.Needs.{needs}
-use Rattle.lists.specs.Listed.{listed}
+use Rattle.lists.proofs.Listed.{length-listed}
+use Rattle.session.specs.Fields.{fieldOf, pinWord}
 use Rattle.session.proofs.Fields.{field-made}
+use Rattle.wiring.specs.Layout.{pinsAt}
 use Rattle.session.proofs.field_of.Statement.{statement}
 use Rattle.session.proofs.field_of.Tie as tie
-
-gather-requires : tie.Need-gather-requires
-gather-requires c κs = search needs
 
 element-copy-out-wide : tie.Need-element-copy-out-wide
 element-copy-out-wide c = search needs
@@ -17,39 +18,46 @@ element-copy-out-wide c = search needs
 wide-requires : tie.Need-wide-requires
 wide-requires c κs = search needs
 
-element-copy-out-wide-2 : tie.Need-element-copy-out-wide-2
-element-copy-out-wide-2 c = search needs
+gather-requires : tie.Need-gather-requires
+gather-requires c κs =
+    let s = c .before .before in
+    let g = s .pre .1 .1 in
+    (s .pre .0, (s .pre .1 .0, (g .net, omega (arith, c .wide .ensures, g .type))))
 
-wide-requires-2 : tie.Need-wide-requires-2
-wide-requires-2 c κs = search needs
+mul-top : tie.Need-mul-top
+mul-top c = search needs
 
-element-copy-out-field : tie.Need-element-copy-out-field
-element-copy-out-field c = search needs
+element-copy-out-top : tie.Need-element-copy-out-top
+element-copy-out-top c = search needs
+
+top-requires : tie.Need-top-requires
+top-requires c κs = search needs
 
 field-requires : tie.Need-field-requires
-field-requires c κs =
-    let s = c .before .before .before .before .before .before .before in
-    let ty = c .before .before .before .before .wide .ensures in
-    let n = c .before .wide2 .ensures in
-    let g = s .pre .1 .1 in
-    (omega (arith, g .type), omega (arith, g .pinned), omega (arith, s .pre .0 .narrow (s .args .g)))
+field-requires c κs = omega (arith, c .before .before .before .wide .ensures, c .before .before .before .before .before .pre .1 .1 .type)
 
 returns : tie.Need-returns
 returns c =
-    let s = c .before .before .before .before .before .before .before .before in
-    field-made (s .args .before .now) (s .args .types .now) (s .args .g) _ (c .before .before .wide2 .result) (c .field .result) _ (c .before .before .before .before .before .before .before .gather .result) _ (c .before .before .before .before .before .wide .ensures) refl
-    (ap (listed (λ i. getD (c .before .before .before .before .before .before .before .gather .result) i 0)) (c .before .before .wide2 .ensures) ∙ c .before .before .before .before .before .before .before .gather .ensures)
-    (omega (arith, c .field .ok)) (c .field .ensures)
+    let s = c .before .before .before .before .before .before in
+    let a = s .args in
+    let ty = c .before .before .before .before .wide .ensures in
+    let pins = pinsAt (a .counts .now) (a .places .now) (a .g) in
+    let words = map (pinWord (a .words .now)) pins in
+    let single : c .before .before .before .before .wide .result < 2 → length words ≡ 1 =
+        λ l. length-map pins (pinWord (a .words .now)) ∙ length-listed _ (getD (a .counts .now) (a .g) 0) ∙ s .pre .1 .1 .single (omega (arith, ty, l)) in
+    field-made (c .before .top .result) (c .before .before .before .before .wide .result) (c .before .before .before .gather .result) (c .field .result) words single
+    (c .before .before .before .gather .ensures) (omega (arith, c .field .ok)) (c .field .ensures)
+    ∙ ap₂ (λ low k. fieldOf low k words) (c .before .top .ensures) ty
 
 pub field-of-spec : {M : Type 1} → statement M
 field-of-spec =
     tie.close
     (tie.spec
-    gather-requires
     element-copy-out-wide
     wide-requires
-    element-copy-out-wide-2
-    wide-requires-2
-    element-copy-out-field
+    gather-requires
+    mul-top
+    element-copy-out-top
+    top-requires
     field-requires
     returns)

@@ -1,28 +1,26 @@
--- `session::gather` meets its contract. The loop's invariant: the first j places have the first j pins' words. The measure is what is left
+-- `session::gather` meets its contract. The loop's invariant: at every time the word has what the first j pins come to. The measure is what is left
 -- of the pins. Assumes nothing.
-use mathlib.Core.Path.{_≡_, ap, _∙_}
-use mathlib.Core.List.{List}
-use Prim.Native.Nat.{ℕ, _+_, _-_, _*_, _≤_}
+use mathlib.Core.Path.{_≡_, ap, ap₂, _∙_}
+use Prim.Native.Nat.{ℕ, _+_, _-_, _*_, _≤_, _<_}
 use native.Mathlib.Omega.{arith}
 use lib.ListN.{getD}
 use borrow.Author.Needs.{needs}
-use Rattle.lists.specs.Listed.{listed, upto}
+use Rattle.lists.specs.Listed.{listed}
+use Rattle.word.specs.Word.{bit}
+use Rattle.word.proofs.Bits.{bit-none}
+use Rattle.gate.specs.Pins.{byPins, withPin}
+use Rattle.gate.proofs.Pins.{by-none, by-more}
 use Rattle.rule.specs.Net.{atPin}
 use Rattle.wiring.proofs.Pins.{pin-fitting}
-use Rattle.session.specs.Fields.{pinWord}
-use Rattle.session.proofs.Fills.{fill-none, fill-more}
-use Rattle.session.proofs.Fields.{gathered}
+use Rattle.session.proofs.Fields.{pin, gathered}
 use Rattle.session.proofs.gather.Statement.{statement}
 use Rattle.session.proofs.gather.Tie as tie
 
-abbrev pin : List ℕ → List ℕ → ℕ → ℕ → ℕ
-pin words places g i = pinWord words (getD places (g * 8 + i) 0)
-
 abbrev Inv-loop : tie.InvT-loop
-Inv-loop words counts places n g count «open» out₀ j₀ out j = (j ≤ count) × (count ≤ 8) × (out ≡ listed (upto (pin words places g) (λ (i : ℕ). 0) j) 8)
+Inv-loop words counts places n ty g count «open» known₀ j₀ known j = (j ≤ count) × (count ≤ 8) × ((t : ℕ) → t < 64 → bit known t ≡ byPins ty (listed (pin words places g t) j))
 
 abbrev μ-loop : tie.MeasureT-loop
-μ-loop words counts places n g count «open» out₀ j₀ out j = count - j
+μ-loop words counts places n ty g count «open» known₀ j₀ known j = count - j
 
 element-copy-out-wide : tie.Need-element-copy-out-wide Inv-loop μ-loop
 element-copy-out-wide c = search needs
@@ -37,7 +35,7 @@ loop-holds : tie.Need-loop-holds Inv-loop μ-loop
 loop-holds c =
     let s = c .before .before .before in
     let e = c .before .wide .ensures in
-    (omega arith, omega (arith, s .pre .0 .narrow (s .args .g)), fill-none (pin (s .args .words .now) (s .args .places .now) (s .args .g)) 0 8)
+    (omega arith, omega (arith, s .pre .0 .narrow (s .args .g)), λ t l. bit-none t ∙ by-none (s .args .ty) _)
 
 mul-at-pin : tie.Need-mul-at-pin Inv-loop μ-loop
 mul-at-pin c = search needs
@@ -57,11 +55,8 @@ at-pin-requires c κs =
     let e = c .before .before .before .before .wide .ensures in
     pin-fitting (s .args .counts .now) (s .args .places .now) (s .args .n) (s .args .g) (c .before .before .loop .j) (s .pre .0) (s .pre .1 .0) (omega arith)
 
-mul-out : tie.Need-mul-out Inv-loop μ-loop
-mul-out c = search needs
-
-array-write-out : tie.Need-array-write-out Inv-loop μ-loop
-array-write-out c = search needs
+with-pin-requires : tie.Need-with-pin-requires Inv-loop μ-loop
+with-pin-requires c κs = search needs
 
 add-j : tie.Need-add-j Inv-loop μ-loop
 add-j c = search needs
@@ -71,21 +66,23 @@ loop-less c = search needs
 
 loop-again : tie.Need-loop-again Inv-loop μ-loop
 loop-again c =
-    let s = c .before .before .before .before .before .before .before in
-    let l = c .before .before .before .loop in
-    let p = getD (s .args .places .now) (s .args .g * 8 + l .j) 0 in (
+    let s = c .before .before .before .before .before .before .before .before in
+    let l = c .before .before .before .before .loop in
+    let p = getD (s .args .places .now) (s .args .g * 8 + l .j) 0 in
+    let word = c .before .at-pin .ensures ∙ ap (λ loose. atPin loose (λ m. getD (s .args .words .now) m 0) p) (c .before .before .before .before .before .open-word .ensures) in (
       omega arith,
       omega arith,
-      fill-more (pin (s .args .words .now) (s .args .places .now) (s .args .g)) 0 8 (l .j) (l .out) (c .at-pin .result) (omega arith) (l .inv .2)
-          (c .at-pin .ensures ∙ ap (λ loose. atPin loose (λ m. getD (s .args .words .now) m 0) p) (c .before .before .before .before .open-word .ensures)),
+      λ t b.
+          c .with-pin .ensures t b ∙ ap₂ (withPin (s .args .ty)) (l .inv .2 t b) (ap (λ w. bit w t) word)
+          ∙ by-more (s .args .ty) (pin (s .args .words .now) (s .args .places .now) (s .args .g) t) (l .j),
     )
 
 returns : tie.Need-returns Inv-loop μ-loop
-returns c =
+returns c t b =
     let s = c .before .before .before .before .before in
     let l = c .before .loop in
     let e = c .before .before .before .wide .ensures in
-    gathered (s .args .words .now) (s .args .counts .now) (s .args .places .now) (l .out) (s .args .g) (l .j) (omega arith) (omega arith) (l .inv .2)
+    gathered (s .args .words .now) (s .args .counts .now) (s .args .places .now) (s .args .g) (s .args .ty) t (l .known) (l .j) (omega arith) (l .inv .2 t b)
 
 pub gather-spec : {M : Type 1} → statement M
 gather-spec =
@@ -102,8 +99,7 @@ gather-spec =
     mul-at-pin-2
     element-copy-out-at-pin
     at-pin-requires
-    mul-out
-    array-write-out
+    with-pin-requires
     add-j
     loop-less
     loop-again

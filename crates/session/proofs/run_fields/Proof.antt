@@ -6,7 +6,7 @@ use borrow.Author.Needs.{needs}
 use Rattle.lists.proofs.Listed.{length-listed}
 use Rattle.card.proofs.Kept.{card-wires, card-fitting}
 use Rattle.card.specs.Held.{HasCard}
-use Rattle.session.proofs.Held.{gates-fit}
+use Rattle.session.proofs.Held.{gates-fit, gates-once}
 use Rattle.session.proofs.Moving.{fields-move}
 use Rattle.session.proofs.run_fields.Statement.{statement}
 use Rattle.session.proofs.run_fields.Tie as tie
@@ -23,23 +23,21 @@ start-requires c κs = search needs
 
 pass-requires : tie.Need-pass-requires
 pass-requires c κs =
-    let a = c .before .before .before .before .before .before .before .before .before .before .before .before .before .before in
+    let a = c .before .before .before .before .before .before .before .before .before .before .before .before .before in
     let s = a .args .t1 in
-    (card-wires s (card a), (card-fitting s (card a), (gates-fit s (card a), ap length (c .before .before .before .before .before .before .before .start .ensures) ∙ length-listed _ 256)))
+    (card-wires s (card a), (card-fitting s (card a), (gates-fit s (card a), (gates-once s (card a), ap length (c .before .before .before .before .before .before .start .ensures) ∙ length-listed _ 256))))
 
 with-words-requires : tie.Need-with-words-requires
 with-words-requires c κs = search needs
 
 returns : tie.Need-returns
 returns c =
-    let a = c .before .before .before .before .before .before .before .before .before .before .before .before .before .before .before .before in
+    let a = c .before .before .before .before .before .before .before .before .before .before .before .before .before .before .before in
     let s = a .args .t1 in
+    let t = c .before .before .before .before .before .before .before .before .before .before .before .before .tops in
+    let st = c .before .before .before .before .before .before .before .before .start in
     c .with-words .ensures
-    ∙ fields-move s (card a) (a .pre .0 .rest (a .pre .1) .1) (a .args .values .now)
-    (c .before .before .before .before .before .before .before .before .before .before .before .before .before .tops .result)
-    (c .before .before .before .before .before .before .before .before .before .start .result) _
-    (c .before .before .before .before .before .before .before .before .before .before .before .before .before .tops .ensures)
-    (c .before .before .before .before .before .before .before .before .before .start .ensures) (c .before .pass .ensures)
+    ∙ fields-move s (card a) (a .pre .0 .rest (a .pre .1) .1) (a .args .values .now) (t .result) (st .result) _ (t .ensures) (st .ensures) (c .before .pass .ensures)
 
 pub run-fields-spec : {M : Type 1} → statement M
 run-fields-spec =

@@ -5,7 +5,7 @@ use borrow.Author.Needs.{needs}
 use Rattle.lists.proofs.Listed.{length-listed}
 use Rattle.card.proofs.Kept.{card-wires, card-fitting}
 use Rattle.card.specs.Held.{HasCard}
-use Rattle.session.proofs.Held.{gates-fit}
+use Rattle.session.proofs.Held.{gates-fit, gates-once}
 use Rattle.session.proofs.Settling.{fields-settle}
 use Rattle.session.proofs.settle.Statement.{statement}
 use Rattle.session.proofs.settle.Tie as tie
@@ -22,9 +22,9 @@ start-requires c κs = search needs
 
 pass-requires : tie.Need-pass-requires
 pass-requires c κs =
-    let a = c .before .before .before .before .before .before .before .before .before .before .before .before .before .before .before in
+    let a = c .before .before .before .before .before .before .before .before .before .before .before .before .before .before in
     let s = a .args .t1 in
-    (card-wires s (card a), (card-fitting s (card a), (gates-fit s (card a), ap length (c .before .before .before .before .before .before .before .start .ensures) ∙ length-listed _ 256)))
+    (card-wires s (card a), (card-fitting s (card a), (gates-fit s (card a), (gates-once s (card a), ap length (c .before .before .before .before .before .before .start .ensures) ∙ length-listed _ 256))))
 
 tops-requires : tie.Need-tops-requires
 tops-requires c κs = search needs
@@ -35,16 +35,15 @@ flats-requires c κs = search needs
 with-words-requires : tie.Need-with-words-requires
 with-words-requires c κs = search needs
 
--- the place after the pass, from the end
 returns : tie.Need-returns
 returns c =
-    let p = c .before .before .before .before .before in
-    let t = p .before .before .before .before .before .before .before .before in
-    let k = t .before .before .before .before in
-    let a = k .before .before .before .before in
+    let a = c .before .before .before .before .before .before .before .before .before .before .before .before .before .before .before .before .before .before .before .before in
+    let k = c .before .before .before .before .before .before .before .before .before .before .before .before .before .before .before .before .constants-of in
+    let st = c .before .before .before .before .before .before .before .before .before .before .before .before .start in
+    let t = c .before .before .before .tops in
+    let f = c .before .flats in
     c .with-words .ensures
-    ∙ fields-settle (a .args .t1) (card a) (a .args .values .now) (k .constants-of .result) (c .before .before .before .tops .result) (t .start .result) _ (c .before .flats .result)
-    (k .constants-of .ensures) (t .start .ensures) (p .pass .ensures) (c .before .before .before .tops .ensures) (c .before .flats .ensures)
+    ∙ fields-settle (a .args .t1) (card a) (a .args .values .now) (k .result) (t .result) (st .result) _ (f .result) (k .ensures) (st .ensures) (c .before .before .before .before .before .pass .ensures) (t .ensures) (f .ensures)
 
 pub settle-spec : {M : Type 1} → statement M
 settle-spec =

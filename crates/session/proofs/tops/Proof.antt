@@ -25,14 +25,14 @@ abbrev μ-loop : tie.MeasureT-loop
 loop-holds : tie.Need-loop-holds Inv-loop μ-loop
 loop-holds c = (omega arith, fill-none (top (c .args .words .now)) false 256)
 
-mul-t6 : tie.Need-mul-t6 Inv-loop μ-loop
-mul-t6 c = search needs
+mul-top : tie.Need-mul-top Inv-loop μ-loop
+mul-top c = search needs
 
-element-copy-out-t9 : tie.Need-element-copy-out-t9 Inv-loop μ-loop
-element-copy-out-t9 c = search needs
+element-copy-out-top : tie.Need-element-copy-out-top Inv-loop μ-loop
+element-copy-out-top c = search needs
 
-has-requires : tie.Need-has-requires Inv-loop μ-loop
-has-requires c κs = search needs
+top-requires : tie.Need-top-requires Inv-loop μ-loop
+top-requires c κs = search needs
 
 array-write-out : tie.Need-array-write-out Inv-loop μ-loop
 array-write-out c = search needs
@@ -46,7 +46,7 @@ loop-less c = search needs
 loop-again : tie.Need-loop-again Inv-loop μ-loop
 loop-again c =
     let l = c .before .before .before .loop in
-    (omega arith, fill-more (top (c .before .before .before .before .args .words .now)) false 256 (l .n) (l .out) (c .has .result) (omega arith) (l .inv .1) (c .has .ensures))
+    (omega arith, fill-more (top (c .before .before .before .before .args .words .now)) false 256 (l .n) (l .out) (c .top .result) (omega arith) (l .inv .1) (c .top .ensures))
 
 returns : tie.Need-returns Inv-loop μ-loop
 returns c = fill-all _ false 256 (c .before .loop .n) (c .before .loop .out) (omega arith) (c .before .loop .inv .1)
@@ -58,9 +58,9 @@ tops-spec =
     Inv-loop
     μ-loop
     loop-holds
-    mul-t6
-    element-copy-out-t9
-    has-requires
+    mul-top
+    element-copy-out-top
+    top-requires
     array-write-out
     add-n
     loop-less

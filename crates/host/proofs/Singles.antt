@@ -1,0 +1,214 @@
+-- Many vectors in one call leave the bytes that the same vectors leave one by one, and so the session that the library's own calls leave; a refused call
+-- leaves bytes and room as they were. Assumes nothing.
+use mathlib.Core.Path.{_≡_, refl, sym, ap, ap₂, subst, _∙_}
+use mathlib.Core.Bool.{Bool, true, false, cond}
+use mathlib.Core.List.{List, [], _∷_, _++_}
+use mathlib.Core.Logic.{_⊎_, inl, inr}
+use Prim.Native.Nat.{ℕ, zero, suc, _+_, _-_, _*_, _/_, _%_, _≤_, _<_}
+use native.Mathlib.Nat.{le-of-eq, le-div-iff-mul-le}
+use native.Mathlib.Omega.{arith}
+use native.Mathlib.Decide.{decLt, decLe}
+use lib.Dec.{ltb, lit≤}
+use lib.ListN.{length, getD}
+use Rattle.lists.specs.Entries.{_∈_, every}
+use Rattle.lists.specs.Listed.{listed}
+use Rattle.lists.proofs.Listed.{is-listed, listed-self, listed-ext, listed-none, listed-more}
+use Rattle.rule.specs.declared.Refusal.the-variants.{NotReady, NoRoom}
+use Rattle.rule.specs.declared.Answer.{Answer}
+use Rattle.rule.specs.declared.Answer.the-variants.{Done, Refused}
+use Rattle.records.specs.Written.{Bytes}
+use Rattle.card.specs.declared.Session.{Session}
+use Rattle.session.specs.Moves.{vectorOf}
+use Rattle.session.specs.Inputs.{byteFits}
+use Rattle.session.specs.Allowed.{Vector}
+use Rattle.session.proofs.Refusals.{vector-takes}
+use Rattle.host.specs.declared.Move.the-variants.{Vector as ByFields}
+use Rattle.host.specs.Places.{part, area, lastRoom}
+use Rattle.host.specs.Made.{madeAgain}
+use Rattle.host.specs.Calls.{packed, keptVector, leftBy, hostMove}
+use Rattle.host.specs.Following.{Holding, Call, bytesAfter}
+use Rattle.host.specs.Many.{manyRun, manyJudged, keptMany, manyDone, eachVector, Shown, hostVectors}
+use Rattle.host.proofs.Places.{length-area, area-in, area-out, room-at}
+use Rattle.host.proofs.Making.{part-bytes}
+use Rattle.host.proofs.Many.{turn-next, inputs-some, many-vector, many-asks, many-left, vectors-done}
+use Rattle.host.proofs.Following.{held-good, move-is, move-follows}
+
+-- What a vector keeps, place by place
+
+length-kept : (b v : List ℕ) → length (keptVector b v) ≡ length b
+unfolding keptVector
+length-kept b v = length-area _ 259 515 v ∙ length-area _ 3 259 (lastRoom b) ∙ length-area b 0 1 (3 ∷ [])
+
+module _ (b v : List ℕ) (long : 5895 ≤ length b) where
+  abbrev first-two : List ℕ
+  first-two = area (area b 0 1 (3 ∷ [])) 3 259 (lastRoom b)
+
+  length-two : length first-two ≡ length b
+  length-two = length-area _ 3 259 (lastRoom b) ∙ length-area b 0 1 (3 ∷ [])
+
+  kept-last : (i : ℕ) → 259 ≤ i → i < 515 → getD (keptVector b v) i 0 ≡ getD v (i - 259) 0
+  unfolding keptVector
+  kept-last i l u = area-in first-two 259 515 v i (omega (arith, length-two, long)) l u
+
+  kept-older : (i : ℕ) → 3 ≤ i → i < 259 → getD (keptVector b v) i 0 ≡ getD b (259 + (i - 3)) 0
+  unfolding keptVector
+  kept-older i l u =
+      area-out first-two 259 515 v i (inl u) (omega (arith, length-two, long))
+      ∙ area-in (area b 0 1 (3 ∷ [])) 3 259 (lastRoom b) i (omega (arith, length-area b 0 1 (3 ∷ []), long)) l u
+      ∙ room-at b (i - 3) (omega arith)
+
+  kept-state : getD (keptVector b v) 0 0 ≡ 3
+  unfolding keptVector
+  kept-state =
+      area-out first-two 259 515 v 0 (inl (omega arith)) (omega (arith, length-two, long))
+      ∙ area-out (area b 0 1 (3 ∷ [])) 3 259 (lastRoom b) 0 (inl (omega arith)) (omega (arith, length-area b 0 1 (3 ∷ []), long))
+      ∙ area-in b 0 1 (3 ∷ []) 0 (omega (arith, long)) (omega arith) (omega arith)
+
+  kept-else : (i : ℕ) → 1 ≤ i → (i < 3) ⊎ (515 ≤ i) → i < length b → getD (keptVector b v) i 0 ≡ getD b i 0
+  unfolding keptVector
+  kept-else i l o u =
+      area-out first-two 259 515 v i (far o) (omega (arith, length-two, u))
+      ∙ area-out (area b 0 1 (3 ∷ [])) 3 259 (lastRoom b) i (near o) (omega (arith, length-area b 0 1 (3 ∷ []), u))
+      ∙ area-out b 0 1 (3 ∷ []) i (inr l) u
+    where
+      far : (i < 3) ⊎ (515 ≤ i) → (i < 259) ⊎ (515 ≤ i)
+      far (inl x) = inl (omega arith)
+      far (inr x) = inr x
+
+      near : (i < 3) ⊎ (515 ≤ i) → (i < 3) ⊎ (259 ≤ i)
+      near (inl x) = inl x
+      near (inr x) = inr (omega arith)
+
+-- of three vectors the first is forgotten
+pub kept-forgets : (b x u w : List ℕ) → 5895 ≤ length b → keptVector (keptVector (keptVector b x) u) w ≡ keptVector (keptVector b u) w
+kept-forgets b x u w long =
+    is-listed (λ i. getD one i 0) (length b) 0 three (len3 b) (λ i l. at i l) ∙ sym (is-listed (λ i. getD one i 0) (length b) 0 one (len2 b) (λ i l. refl))
+  where
+    k : List ℕ
+    k = keptVector b x
+
+    three : List ℕ
+    three = keptVector (keptVector k u) w
+
+    one : List ℕ
+    one = keptVector (keptVector b u) w
+
+    len2 : (y : List ℕ) → length (keptVector (keptVector y u) w) ≡ length y
+    len2 y = length-kept (keptVector y u) w ∙ length-kept y u
+
+    len3 : (y : List ℕ) → length three ≡ length b
+    len3 y = len2 k ∙ length-kept b x
+
+    long1 : (y v : List ℕ) → 5895 ≤ length y → 5895 ≤ length (keptVector y v)
+    long1 y v l = omega (arith, length-kept y v, l)
+
+    at : (i : ℕ) → i < length b → getD three i 0 ≡ getD one i 0
+    at i l = go (decLt i 1) (decLt i 3) (decLt i 259) (decLt i 515)
+      where
+        long-k : 5895 ≤ length k
+        long-k = long1 b x long
+
+        two : (y : List ℕ) → 5895 ≤ length y → 3 ≤ i → i < 259 → getD (keptVector (keptVector y u) w) i 0 ≡ getD u (259 + (i - 3) - 259) 0
+        two y m a c = kept-older (keptVector y u) w (long1 y u m) i a c ∙ kept-last y u m (259 + (i - 3)) (omega arith) (omega arith)
+
+        rest : (y : List ℕ) → 5895 ≤ length y → i < length y → 1 ≤ i → (i < 3) ⊎ (515 ≤ i) → getD (keptVector (keptVector y u) w) i 0 ≡ getD y i 0
+        rest y m q a o = kept-else (keptVector y u) w (long1 y u m) i a o (omega (arith, length-kept y u, q)) ∙ kept-else y u m i a o q
+
+        else : 1 ≤ i → (i < 3) ⊎ (515 ≤ i) → getD three i 0 ≡ getD one i 0
+        else a o = rest k long-k (omega (arith, length-kept b x, l)) a o ∙ kept-else b x long i a o l ∙ sym (rest b long l a o)
+
+        go : Dec (i < 1) → Dec (i < 3) → Dec (i < 259) → Dec (i < 515) → getD three i 0 ≡ getD one i 0
+        go (yes a) d e f =
+            let z : i ≡ 0 = omega arith in
+            ap (λ j. getD three j 0) z ∙ kept-state (keptVector k u) w (long1 k u long-k) ∙ sym (ap (λ j. getD one j 0) z ∙ kept-state (keptVector b u) w (long1 b u long))
+        go (no a) (yes d) e f = else (omega arith) (inl d)
+        go (no a) (no d) (yes e) f = two k long-k (omega arith) e ∙ sym (two b long (omega arith) e)
+        go (no a) (no d) (no e) (yes f) =
+            kept-last (keptVector k u) w (long1 k u long-k) i (omega arith) f ∙ sym (kept-last (keptVector b u) w (long1 b u long) i (omega arith) f)
+        go (no a) (no d) (no e) (no f) = else (omega arith) (inr (omega arith))
+
+-- One vector after another
+
+-- the bytes that the first k of many vectors leave, each kept after the one before it
+keptEach : List ℕ → List ℕ → ℕ → ℕ → List ℕ
+keptEach b vs n zero = b
+keptEach b vs n (suc k) = keptVector (keptEach b vs n k) (part vs (k * n) n)
+
+length-each : (b vs : List ℕ) (n k : ℕ) → length (keptEach b vs n k) ≡ length b
+unfolding keptEach
+length-each b vs n zero = refl
+length-each b vs n (suc k) = length-kept (keptEach b vs n k) (part vs (k * n) n) ∙ length-each b vs n k
+
+-- only the last two are seen
+last-two : (b vs : List ℕ) (n : ℕ) → 5895 ≤ length b → (k : ℕ) (u w : List ℕ) → keptVector (keptVector (keptEach b vs n k) u) w ≡ keptVector (keptVector b u) w
+unfolding keptEach
+last-two b vs n long zero u w = refl
+last-two b vs n long (suc k) u w = kept-forgets (keptEach b vs n k) (part vs (k * n) n) u w (omega (arith, length-each b vs n k, long)) ∙ last-two b vs n long k u w
+
+each-many : (b vs : List ℕ) (n k : ℕ) → 5895 ≤ length b → keptEach b vs n k ≡ keptMany b vs n k
+unfolding keptMany keptEach
+each-many b vs n zero long = refl
+each-many b vs n (suc zero) long = refl
+each-many b vs n (suc (suc k)) long = last-two b vs n long k (part vs (k * n) n) (part vs (suc k * n) n)
+
+bytes-append : (b : List ℕ) (xs ys : List Call) → bytesAfter b (xs ++ ys) ≡ bytesAfter (bytesAfter b xs) ys
+unfolding bytesAfter
+bytes-append b [] ys = refl
+bytes-append b (x ∷ xs) ys = bytes-append (hostMove (x .how) b (x .given) .bytes) xs ys
+
+module _ (b : List ℕ) (s : Session) (h : Holding b s) (vs room : List ℕ) (ok : Bytes vs) (r : s .rested ≡ true) (fits : every byteFits vs ≡ true) where
+  abbrev n : ℕ
+  n = s .inputs
+
+  -- each call holds the session that the vectors so far leave, and is done
+  each-holds : (k : ℕ) → k * n ≤ length vs → Holding (keptEach b vs n k) (manyRun s vs n k room .session) × (bytesAfter b (eachVector vs n k) ≡ keptEach b vs n k)
+  unfolding manyRun eachVector bytesAfter keptEach
+  each-holds zero l = (h, ap (bytesAfter b) (listed-none (λ j. record { how = ByFields; given = part vs (j * n) n })))
+  each-holds (suc k) l =
+      let e : k + 1 ≡ suc k = omega arith in
+      let l′ : k * n + n ≤ length vs = omega (arith, turn-next k n, ap (λ j. j * n) e, l) in
+      let so-far = each-holds k (omega (arith, l′)) in
+      let left = many-left s (held-good b s h) r vs room fits k (omega (arith, l′)) in
+      let z = manyRun s vs n k room .session in
+      let v = part vs (k * n) n in
+      let bytes = part-bytes vs ok (k * n) n in
+      let vec : Vector (z .inputs) v = subst (λ x. Vector (x .inputs) v) (sym (left .same)) (many-vector vs n k fits l′) in
+      let done : vectorOf z v .answer ≡ Done 0 = ap (λ x. x .answer) (vector-takes z v (ap (λ x. x .rested) (left .same)) vec) in
+      let call : Call = record { how = ByFields; given = v } in
+      let b′ = keptEach b vs n k in
+      let kept : hostMove ByFields b′ v .bytes ≡ keptVector b′ v =
+          ap (λ x. x .bytes) (move-is b′ z (so-far .0) v bytes ByFields) ∙ ap (λ a. leftBy ByFields a b′ v .bytes) done in
+      let last : bytesAfter b (eachVector vs n (suc k)) ≡ bytesAfter (bytesAfter b (eachVector vs n k)) (call ∷ []) =
+          ap (λ j. bytesAfter b (eachVector vs n j)) (sym e) ∙ ap (bytesAfter b) (listed-more (λ j. record { how = ByFields; given = part vs (j * n) n }) k) ∙ bytes-append b (eachVector vs n k) (call ∷ []) in (
+        subst (λ x. Holding x (vectorOf z v .session)) kept (move-follows ByFields b′ v z (so-far .0) bytes .0),
+        last ∙ ap (λ x. hostMove ByFields x v .bytes) (so-far .1) ∙ kept,
+      )
+
+-- the call that runs many vectors leaves the bytes that the same vectors leave one by one, and they hold the session that the library's own operation leaves, vector by vector
+pub many-follow : (b vs room : List ℕ) (s : Session) → Holding b s → Bytes vs → (k : ℕ) → manyJudged s vs (length room) ≡ Done k
+    → (hostVectors b vs room .bytes ≡ bytesAfter b (eachVector vs (s .inputs) k)) × Holding (hostVectors b vs room .bytes) (manyRun s vs (s .inputs) k room .session)
+many-follow b vs room s h ok k e =
+    let asks = many-asks s vs (length room) k e in
+    let card = held-good b s h .card (held-good b s h .rest (asks .0) .0) in
+    let few = le-div-iff-mul-le (inputs-some s card .0) .0 (le-of-eq (asks .2)) in
+    let each = each-holds b s h vs room ok (asks .0) (asks .1) k few in
+    let call : hostVectors b vs room ≡ manyDone s b vs room (Done k) =
+        sym (vectors-done b vs room (h .room) (ap (λ m. m .whole) (h .made))) ∙ ap (λ m. manyDone (m .session) b vs room (manyJudged (m .session) vs (length room))) (h .made) ∙ ap (manyDone s b vs room) e in
+    let left : hostVectors b vs room .bytes ≡ keptEach b vs (s .inputs) k = ap (λ x. x .bytes) call ∙ sym (each-many b vs (s .inputs) k (h .room)) in
+    (left ∙ sym (each .1), subst (λ x. Holding x (manyRun s vs (s .inputs) k room .session)) (sym left) (each .0))
+
+-- a refused call leaves every byte, and the room, as they were, of any bytes
+pub many-refused : (b vs room : List ℕ) → ¬ (hostVectors b vs room .answer ≡ 0) → (hostVectors b vs room .bytes ≡ b) × (hostVectors b vs room .words ≡ room)
+unfolding hostVectors
+many-refused b vs room x = go (ltb (length b) 5895) (madeAgain b .whole) (manyJudged (madeAgain b .session) vs (length room)) x
+  where
+    kept : Answer → Shown
+    kept a = record { answer = packed a; bytes = b; words = room }
+
+    go : (x y : Bool) (a : Answer) → ¬ (cond x (kept (Refused NoRoom)) (cond y (manyDone (madeAgain b .session) b vs room a) (kept (Refused NotReady))) .answer ≡ 0)
+        → (cond x (kept (Refused NoRoom)) (cond y (manyDone (madeAgain b .session) b vs room a) (kept (Refused NotReady))) .bytes ≡ b)
+        × (cond x (kept (Refused NoRoom)) (cond y (manyDone (madeAgain b .session) b vs room a) (kept (Refused NotReady))) .words ≡ room)
+    go true y a x = (refl, refl)
+    go false false a x = (refl, refl)
+    go false true (Refused why) x = (refl, refl)
+    go false true (Done k) x = absurd (x refl)
