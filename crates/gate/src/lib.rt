@@ -1,6 +1,6 @@
 // What a gate gives of its pins: of one value each, and of one word each, in which bit t is the value at time t. The words are taken in pin by pin.
 ghost use mathlib.Core.Path.{_≡_};
-ghost use mathlib.Core.Bool.{false};
+ghost use mathlib.Core.Bool.{false, not};
 ghost use Prim.Native.Nat.{ℕ, _<_, _≤_};
 ghost use lib.ListN.{getD};
 ghost use Rattle.lists.specs.Entries.{some};
@@ -111,35 +111,45 @@ pub fn gate_bit(ty: usize, pins: &[bool; 8], n: usize) -> bool
     odd_of(pins, n) ^ rule.inversion
 }
 
-// Pin by pin, at every time: what the pins so far come to, with one more. From none it is 0.
-pub fn with_pin(ty: usize, known: u64, pin: u64) -> u64
+// The word of the value that does not control a gate.
+pub fn other_word(ty: usize) -> u64
     requires { ⌜ ty < 8 ⌝ }
-    ensures { λ r. ⌜ ((t : ℕ) → t < 64 → bit r t ≡ withPin ty (bit known t) (bit pin t)) ⌝ }
+    ensures { λ r. ⌜ ((t : ℕ) → t < 64 → bit r t ≡ not (controls ty)) ⌝ }
 {
     let rule = rule_of(ty);
+    word::spread(!rule.controlling)
+}
+
+// Pin by pin, at every time: what the pins so far come to, with one more. From none it is 0. The table is read once a gate, not once a pin.
+pub fn with_pin(ty: usize, other: u64, known: u64, pin: u64) -> u64
+    requires { ⌜ ((t : ℕ) → t < 64 → bit other t ≡ not (controls ty)) ⌝ }
+    ensures { λ r. ⌜ ((t : ℕ) → t < 64 → bit r t ≡ withPin ty (bit known t) (bit pin t)) ⌝ }
+{
     if ty < 6 {
-        return known | (pin ^ word::spread(!rule.controlling));
+        return known | (pin ^ other);
     }
     known ^ pin
 }
 
 // A gate's word of what all its pins come to.
-fn gate_word(ty: usize, all: u64) -> u64
+fn gate_word(ty: usize, other: u64, all: u64) -> u64
     requires { ⌜ ty < 8 ⌝ }
+    requires { ⌜ ((t : ℕ) → t < 64 → bit other t ≡ not (controls ty)) ⌝ }
     ensures { λ r. ⌜ ((t : ℕ) → t < 64 → bit r t ≡ ofPins ty (bit all t)) ⌝ }
 {
     let rule = rule_of(ty);
     let inversion = word::spread(rule.inversion);
     if ty < 6 {
-        return all ^ word::spread(!rule.controlling) ^ inversion;
+        return all ^ other ^ inversion;
     }
     all ^ inversion
 }
 
 // A gate's field of what all its pins come to: its word, moved up by one, with the before value in bit 0.
-pub fn field(ty: usize, all: u64, before: bool) -> u64
+pub fn field(ty: usize, other: u64, all: u64, before: bool) -> u64
     requires { ⌜ ty < 8 ⌝ }
+    requires { ⌜ ((t : ℕ) → t < 64 → bit other t ≡ not (controls ty)) ⌝ }
     ensures { λ r. ⌜ ((t : ℕ) → t < 64 → bit r t ≡ movedUp before (λ u. ofPins ty (bit all u)) t) ⌝ }
 {
-    word::up(gate_word(ty, all), before)
+    word::up(gate_word(ty, other, all), before)
 }

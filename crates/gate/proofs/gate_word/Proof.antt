@@ -1,6 +1,5 @@
 -- A gate's word of what its pins come to, at every time: `of-control` and `of-odd` with the row that `rule_of` gives. Assumes nothing.
 use mathlib.Core.Path.{ap, _∙_}
-use mathlib.Core.Bool.{not}
 use native.Mathlib.Omega.{arith}
 use lib.Bits.{bitXor}
 use borrow.Author.Needs.{needs}
@@ -16,26 +15,21 @@ rule-of-requires c κs = search needs
 spread-requires : tie.Need-spread-requires
 spread-requires c κs = search needs
 
-spread-requires-2 : tie.Need-spread-requires-2
-spread-requires-2 c κs = search needs
-
 returns : tie.Need-returns
 returns c t l =
-    let args = c .before .before .before .before .before .args in
-    let rule = c .before .before .before .before .rule-of in
-    let inversion = c .before .before .before .spread in
-    let other = c .spread2 in
-    bit-xor (bitXor (args .all) (other .result)) (inversion .result) t
-    ∙ ap (λ b. differ b (bit (inversion .result) t)) (bit-xor (args .all) (other .result) t)
-    ∙ of-control (args .ty) (bit (args .all) t) (omega arith) (other .ensures t l ∙ ap not (rule .ensures .0)) (inversion .ensures t l ∙ rule .ensures .1)
+    let s = c .before .before .before in
+    let a = s .args in
+    let inversion = c .before .spread in
+    bit-xor (bitXor (a .all) (a .other)) (inversion .result) t
+    ∙ ap (λ b. differ b (bit (inversion .result) t)) (bit-xor (a .all) (a .other) t)
+    ∙ of-control (a .ty) (bit (a .all) t) (omega arith) (s .pre .1 t l) (inversion .ensures t l ∙ c .before .before .rule-of .ensures .1)
 
 returns-2 : tie.Need-returns-2
 returns-2 c t l =
-    let args = c .before .before .before .args in
+    let a = c .before .before .before .args in
     let inversion = c .before .spread in
-    bit-xor (args .all) (inversion .result) t
-    ∙ of-odd (args .ty) (bit (args .all) t) (omega arith) (inversion .ensures t l ∙ c .before .before .rule-of .ensures .1)
+    bit-xor (a .all) (inversion .result) t
+    ∙ of-odd (a .ty) (bit (a .all) t) (omega arith) (inversion .ensures t l ∙ c .before .before .rule-of .ensures .1)
 
 pub gate-word-spec : {M : Type 1} → statement M
-gate-word-spec =
-    tie.close (tie.spec rule-of-requires spread-requires spread-requires-2 returns returns-2)
+gate-word-spec = tie.close (tie.spec rule-of-requires spread-requires returns returns-2)

@@ -18,11 +18,11 @@ element-copy-out-wide c = search needs
 wide-requires : tie.Need-wide-requires
 wide-requires c κs = search needs
 
+other-word-requires : tie.Need-other-word-requires
+other-word-requires c κs = omega (arith, c .wide .ensures, c .before .before .pre .1 .1 .type)
+
 gather-requires : tie.Need-gather-requires
-gather-requires c κs =
-    let s = c .before .before in
-    let g = s .pre .1 .1 in
-    (s .pre .0, (s .pre .1 .0, (g .net, omega (arith, c .wide .ensures, g .type))))
+gather-requires c κs = let s = c .before .before .before in (s .pre .0, (s .pre .1 .0, (s .pre .1 .1 .net, c .other-word .ensures)))
 
 mul-top : tie.Need-mul-top
 mul-top c = search needs
@@ -34,18 +34,18 @@ top-requires : tie.Need-top-requires
 top-requires c κs = search needs
 
 field-requires : tie.Need-field-requires
-field-requires c κs = omega (arith, c .before .before .before .wide .ensures, c .before .before .before .before .before .pre .1 .1 .type)
+field-requires c κs = (omega (arith, c .before .before .before .before .wide .ensures, c .before .before .before .before .before .before .pre .1 .1 .type), c .before .before .before .other-word .ensures)
 
 returns : tie.Need-returns
 returns c =
-    let s = c .before .before .before .before .before .before in
+    let s = c .before .before .before .before .before .before .before in
     let a = s .args in
-    let ty = c .before .before .before .before .wide .ensures in
+    let ty = c .before .before .before .before .before .wide .ensures in
     let pins = pinsAt (a .counts .now) (a .places .now) (a .g) in
     let words = map (pinWord (a .words .now)) pins in
-    let single : c .before .before .before .before .wide .result < 2 → length words ≡ 1 =
+    let single : c .before .before .before .before .before .wide .result < 2 → length words ≡ 1 =
         λ l. length-map pins (pinWord (a .words .now)) ∙ length-listed _ (getD (a .counts .now) (a .g) 0) ∙ s .pre .1 .1 .single (omega (arith, ty, l)) in
-    field-made (c .before .top .result) (c .before .before .before .before .wide .result) (c .before .before .before .gather .result) (c .field .result) words single
+    field-made (c .before .top .result) (c .before .before .before .before .before .wide .result) (c .before .before .before .gather .result) (c .field .result) words single
     (c .before .before .before .gather .ensures) (omega (arith, c .field .ok)) (c .field .ensures)
     ∙ ap₂ (λ low k. fieldOf low k words) (c .before .top .ensures) ty
 
@@ -55,6 +55,7 @@ field-of-spec =
     (tie.spec
     element-copy-out-wide
     wide-requires
+    other-word-requires
     gather-requires
     mul-top
     element-copy-out-top

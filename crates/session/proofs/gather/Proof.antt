@@ -17,10 +17,10 @@ use Rattle.session.proofs.gather.Statement.{statement}
 use Rattle.session.proofs.gather.Tie as tie
 
 abbrev Inv-loop : tie.InvT-loop
-Inv-loop words counts places n ty g count «open» known₀ j₀ known j = (j ≤ count) × (count ≤ 8) × ((t : ℕ) → t < 64 → bit known t ≡ byPins ty (listed (pin words places g t) j))
+Inv-loop words counts places n ty other g count «open» known₀ j₀ known j = (j ≤ count) × (count ≤ 8) × ((t : ℕ) → t < 64 → bit known t ≡ byPins ty (listed (pin words places g t) j))
 
 abbrev μ-loop : tie.MeasureT-loop
-μ-loop words counts places n ty g count «open» known₀ j₀ known j = count - j
+μ-loop words counts places n ty other g count «open» known₀ j₀ known j = count - j
 
 element-copy-out-wide : tie.Need-element-copy-out-wide Inv-loop μ-loop
 element-copy-out-wide c = search needs
@@ -56,7 +56,7 @@ at-pin-requires c κs =
     pin-fitting (s .args .counts .now) (s .args .places .now) (s .args .n) (s .args .g) (c .before .before .loop .j) (s .pre .0) (s .pre .1 .0) (omega arith)
 
 with-pin-requires : tie.Need-with-pin-requires Inv-loop μ-loop
-with-pin-requires c κs = search needs
+with-pin-requires c κs = c .before .before .before .before .before .before .before .pre .1 .1 .1
 
 add-j : tie.Need-add-j Inv-loop μ-loop
 add-j c = search needs
