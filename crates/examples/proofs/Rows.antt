@@ -34,7 +34,7 @@ use Rattle.session.specs.Good.{histories}
 use Rattle.session.specs.Moves.{ends, movedBy, vectorOf, settled, restedBy, restOf}
 use Rattle.history.specs.Told.{historyOf}
 use Rattle.history.specs.Traced.{wayBack, traceOf}
-use Rattle.steps.specs.Variables.{varsOf, wordsOf, readIn, stepIn, ran, historyOf as historyWord, historiesFrom}
+use Rattle.steps.specs.Variables.{heldIn, wordsOf, readIn, stepIn, ran, historyOf as historyWord, historiesFrom}
 use Rattle.steps.specs.Listing.{listOf}
 use Rattle.steps.specs.Vector.{startVars, ranAlong, ranSession, stepsVectorOf}
 use Rattle.bench.specs.Orders.{entriesFit, orderReady, orderJudged}
@@ -86,7 +86,7 @@ passes : Engine → List Line → Bool
 passes e row = sameBy sameReply (replies e none (calls row)) (expected e row)
 
 all-pass : every (λ row. passes fields row && passes steps row) table ≡ true
-unfolding passes table replies cardBytes netBytes u16At kindFits typeFits bodyFits netRecord recordAt readAt netMeant scan listed listedFrom loadOf judged none sessionOf wiredOf pinsFit mostBack openPin atPin netAt longest level depth gateOrder netSteps stepList pcSet setWords inputsOf count restOf vectorFits restedBy settled given rank value gate controls inverts controlled cardOf cardIn kindsOf typesOf countsOf placesOf openValue wordOf bit vectorOf movedBy histories ends historyOf flagOf changes causes wayBack traceOf netAsked listOf stepsVectorOf ranSession ranAlong startVars startAt ran stepIn readIn wordsOf varsOf historyWord historiesFrom greatest made step run ready readStep stepReads entriesFit orderReady orderJudged notDone benchDone benchOf digitsIn decimal refusedLine firstLine values netLine cardText historyLine vectorText endFrom cardEnd entryIn entryAt recordsText loadedText sheetOf
+unfolding passes table replies cardBytes netBytes u16At kindFits typeFits bodyFits netRecord recordAt readAt netMeant scan listed listedFrom loadOf judged none sessionOf wiredOf pinsFit mostBack openPin atPin netAt longest level depth gateOrder netSteps stepList pcSet setWords inputsOf count restOf vectorFits restedBy settled given rank value gate controls inverts controlled cardOf cardIn kindsOf typesOf countsOf placesOf openValue wordOf bit vectorOf movedBy histories ends historyOf flagOf changes causes wayBack traceOf netAsked listOf stepsVectorOf ranSession ranAlong startVars startAt ran stepIn readIn wordsOf heldIn historyWord historiesFrom greatest made step run ready readStep stepReads entriesFit orderReady orderJudged notDone benchDone benchOf digitsIn decimal refusedLine firstLine values netLine cardText historyLine vectorText endFrom cardEnd entryIn entryAt recordsText loadedText sheetOf
 all-pass = refl
 
 -- each example's sentence: the calls of its row hand back what the row says, by either engine
