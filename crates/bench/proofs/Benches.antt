@@ -206,6 +206,11 @@ module _ (s : Session) (good : Good s) (v order : List ℕ) (k : ℕ) (room : Li
     count-is : along .count ≡ k
     count-is = run-count s new (stepsOf c (take k order)) ∙ length-map (take k order) (stepAt (stepList c)) ∙ length-take-le k order (omega (arith, d .asked, order-long))
 
+    -- "A vector by steps and a bench run return the steps done."
+    pub bench-answers : result .moved .answer ≡ Done k
+    unfolding benchDone
+    bench-answers = ap (λ b. b .moved .answer) bench-does ∙ ap (λ n. Done n) count-is
+
     -- the byte of a step that was done is the rule's value, that of any other 2
     pub bench-proper : (e : ℕ) → e ∈ take k order
         → getD (result .room) e 0 ≡ val (value c (ends s) new (stepAt (stepList c) e .net) (stepAt (stepList c) e .time))
@@ -259,6 +264,14 @@ module _ (s : Session) (good : Good s) (v order : List ℕ) (k : ℕ) (room : Li
       go : (x : Benched) → Ruling x → length (x .room) ≡ length room
       go x (refuses r g) = refl
       go x (does d) = fill-length (byteAt c (along d .words) (take k order)) room (stepsIn s)
+
+  -- a part leaves the session as it was, done or refused
+  pub bench-stays : k < stepsIn s → result .moved .session ≡ s
+  bench-stays l = go result bench-ruled refl
+    where
+      go : (x : Benched) → Ruling x → result ≡ x → result .moved .session ≡ s
+      go x (refuses r g) e = ap (λ b. b .moved .session) e
+      go x (does d) e = ap (λ m. m .session) (bench-part d l)
 
   pub bench-good : Good (result .moved .session)
   bench-good = go result bench-ruled refl

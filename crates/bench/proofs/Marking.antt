@@ -1,4 +1,4 @@
--- Which variables are there, kept as words: what a pin finds, what a gate's pins find, and one step of an order more. Assumes nothing.
+-- Which variables are there, kept as words: what a gate's pins find, and one step of an order more. Assumes nothing.
 use mathlib.Core.Path.{_≡_, refl, sym, ap, ap₂, _∙_}
 use mathlib.Core.Bool.{Bool, true, false, cond, _&&_}
 use mathlib.Core.List.{List, [], _∷_, map}
@@ -13,15 +13,11 @@ use Rattle.lists.specs.Listed.{listed}
 use Rattle.lists.proofs.Tests.{every-no}
 use Rattle.lists.proofs.Listed.{in-listed}
 use Rattle.word.specs.Word.{bit, val}
-use Rattle.word.specs.Times.{greatest, zeroIn}
 use Rattle.word.proofs.Words.{is-word}
-use Rattle.rule.specs.Net.{openPin, atPin}
 use Rattle.rule.specs.Steps.{Step}
-use Rattle.rule.proofs.Nets.{at-open, at-net}
 use Rattle.rule.specs.declared.Refusal.the-variants.{OrderLength, OrderEntry, OrderEarly}
 use Rattle.wiring.specs.declared.Verdict.the-variants.{Refused, Passed}
 use Rattle.steps.specs.Variables.{readIn, readsIn}
-use Rattle.steps.proofs.Pins.{largest-in}
 use Rattle.bench.specs.Orders.{entriesFit}
 use Rattle.bench.specs.Bench.{notDone, byteIn}
 use Rattle.bench.specs.Ready.{StepEntry, orderSteps, doneOf, markIn, readyIn, judgedIn}
@@ -40,23 +36,6 @@ byte-done done b x e q = rw (e, q)
 pub byte-at : (vars nets times : List ℕ) (done : List Bool) (e g t r : ℕ) → g ≡ getD nets e 0 → t ≡ getD times e 0 → r ≡ cond (getD done e false) (val (bit (getD vars g 0) t)) notDone
     → r ≡ byteIn vars nets times done e
 byte-at vars nets times done e g t r p q h = h ∙ ap₂ (λ n u. cond (getD done e false) (val (bit (getD vars n 0) u)) notDone) p q
-
--- A pin
-
-module _ (done sets : List ℕ) (t p : ℕ) where
-  pub done-open : p ≡ openPin → true ≡ doneOf done (readIn sets t p)
-  unfolding doneOf readIn
-  done-open e = rw e (sym (at-open true _))
-
-  -- a pin that names net n: its set with 0 inserted is w, and u is that set's largest element below t
-  pub done-net : (n w u : ℕ) (b : Bool) → 0 < t → ¬ (p ≡ openPin) → n ≡ p → ((i : ℕ) → bit w i ≡ zeroIn (bit (getD sets n 0)) i) → u ≡ greatest (bit w) t 64
-      → b ≡ bit (getD done n 0) u → b ≡ doneOf done (readIn sets t p)
-  unfolding doneOf readIn
-  done-net n w u b l q e h m r =
-      r ∙ ap (bit (getD done n 0)) (largest-in (bit w) (bit (getD sets n 0)) t u l h m)
-      ∙ ap (λ k. bit (getD done k 0) (greatest (zeroIn (bit (getD sets k 0))) t 0)) e
-      ∙ ap (λ x. bit (getD done p 0) (greatest (zeroIn (bit x)) t 0)) (sym (at-net 1 (λ k. getD sets k 0) p q))
-      ∙ sym (at-net true (λ k. bit (getD done k 0) (greatest (zeroIn (bit (atPin 1 (λ m. getD sets m 0) p))) t 0)) p q)
 
 -- A gate's pins
 

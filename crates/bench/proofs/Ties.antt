@@ -32,6 +32,7 @@ use Rattle.card.specs.declared.Session.{Session}
 use Rattle.card.specs.Session.{cardOf}
 use Rattle.card.specs.Held.{HasCard}
 use Rattle.card.proofs.Kept.{card-fits}
+use Rattle.steps.specs.Variables.{heldIn}
 use Rattle.steps.specs.Listing.{noStep, stepAt}
 use Rattle.steps.proofs.Cards.{step-low}
 use Rattle.steps.proofs.Words.{reads-same}
@@ -98,11 +99,11 @@ module _ (s : Session) (h : HasCard s) where
   Agree words there = (j : Step) → Readable j → doneOf words j ≡ there j
 
   done-bit : (words : List ℕ) (j : Step) → j .net < 256 → doneOf words j ≡ bit (getD words (j .net) 0) (j .time)
-  unfolding doneOf
+  unfolding heldIn
   done-bit words j l = at-net true (λ n. bit (getD words n 0) (j .time)) (j .net) (not-open (j .net) (omega arith))
 
   done-loose : (words : List ℕ) (j : Step) → j .net ≡ openPin → doneOf words j ≡ true
-  unfolding doneOf
+  unfolding heldIn
   done-loose words j e = ap (atPin true (λ n. bit (getD words n 0) (j .time))) e ∙ at-open true (λ n. bit (getD words n 0) (j .time))
 
   -- ahead of all steps

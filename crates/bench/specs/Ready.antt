@@ -7,12 +7,12 @@ use lib.Dec.{eqb}
 use lib.ListN.{length, getD, set, replicate}
 use Rattle.lists.specs.Entries.{_∈_, every}
 use Rattle.word.specs.Word.{bit, wordOf}
-use Rattle.rule.specs.Net.{Net, atPin}
+use Rattle.rule.specs.Net.{Net}
 use Rattle.rule.specs.Steps.{Step, stepList}
 use Rattle.rule.specs.declared.Refusal.the-variants.{OrderLength, OrderEntry, OrderEarly}
 use Rattle.wiring.specs.declared.Verdict.{Verdict}
 use Rattle.wiring.specs.declared.Verdict.the-variants.{Refused, Passed}
-use Rattle.steps.specs.Variables.{readsIn}
+use Rattle.steps.specs.Variables.{heldIn, readsIn}
 use Rattle.steps.specs.Listing.{stepAt}
 use Rattle.bench.specs.Orders.{entriesFit}
 
@@ -40,8 +40,8 @@ abbrev pub orderSteps : List ℕ → List ℕ → List ℕ → List Step
 orderSteps nets times order = map (λ e. record { net = getD nets e 0; time = getD times e 0 }) order
 
 -- those of an open pin are always there
-unfoldable pub doneOf : List ℕ → Step → Bool
-doneOf words k = atPin true (λ n. bit (getD words n 0) (k .time)) (k .net)
+abbrev pub doneOf : List ℕ → Step → Bool
+doneOf words = heldIn true words
 
 -- one more is there
 unfoldable pub markIn : List ℕ → Step → List ℕ

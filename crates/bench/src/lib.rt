@@ -1,18 +1,16 @@
 // Orders of step numbers, and the bench run.
 ghost use mathlib.Core.Path.{_≡_};
 ghost use mathlib.Core.Bool.{true, false, cond};
-ghost use mathlib.Core.Logic.{_⊎_};
 ghost use Prim.Native.Nat.{ℕ, _<_, _≤_};
 ghost use lib.Dec.{eqb};
 ghost use lib.ListN.{length, getD, take, replicate};
 ghost use Rattle.lists.specs.Entries.{some, every};
 ghost use Rattle.lists.specs.Listed.{listed};
 ghost use Rattle.word.specs.Word.{bit, val};
-ghost use Rattle.rule.specs.Net.{openPin};
 ghost use Rattle.wiring.specs.Wires.{Wires, Fitting};
 ghost use Rattle.card.specs.Session.{cardOf};
 ghost use Rattle.session.specs.Good.{Good};
-ghost use Rattle.steps.specs.Variables.{readIn, readsIn};
+ghost use Rattle.steps.specs.Variables.{readsIn};
 ghost use Rattle.history.specs.Filled.{filled};
 ghost use Rattle.bench.specs.Orders.{entriesFit, orderJudged};
 ghost use Rattle.bench.specs.Ready.{StepEntry, Taken, orderSteps, doneOf, readyIn, judgedIn};
@@ -45,22 +43,7 @@ fn entries_fit(order: &[u16], total: usize) -> bool
     true
 }
 
-// Whether the variable by which a pin is read at time t is there: bit u of a net's word in `done` says that its variable of time u is.
-fn pin_done<'a>(done: &[u64; 256], sets: &'a [u64; 256], p: u16, t: u32) -> bool
-    requires { ⌜ (p < 256) ⊎ (p ≡ openPin) ⌝ }
-    requires { ⌜ (0 < t) × (t < 64) ⌝ }
-    ensures { λ r. ⌜ r ≡ doneOf (now (done .entry)) (readIn (now (sets .entry)) t p) ⌝ }
-{
-    if p == wiring::OPEN {
-        return true;
-    }
-    let n = wiring::wide16(p);
-    let set = PcSet { word: sets[n] };
-    let held = PcSet { word: done[n] };
-    held.has(set.with_zero().largest_below(t))
-}
-
-// Whether all that gate g reads at time t is there.
+// Whether all that gate g reads at time t is there: bit u of a net's word in `done` says that its variable of time u is. That of an open pin always is.
 fn reads_done<'a>(
     done: &[u64; 256],
     counts: &'a [u8; 256],
@@ -72,13 +55,13 @@ fn reads_done<'a>(
 ) -> bool
     requires { ⌜ Wires (now counts) (now places) n ⌝ }
     requires { ⌜ Fitting (now counts) (now places) n ⌝ }
-    requires { ⌜ (g < 256) × (0 < t) × (t < 64) ⌝ }
+    requires { ⌜ (g < 256) × (0 < t) ⌝ }
     ensures { λ r. ⌜ r ≡ every (doneOf (now (done .entry))) (readsIn (now (counts .entry)) (now (places .entry)) (now (sets .entry)) (record { net = g; time = t })) ⌝ }
 {
     let count = wiring::wide(counts[g]);
     let mut j: usize = 0;
     while j < count {
-        if !pin_done(done, sets, places[g * 8 + j], t) {
+        if !steps::read_at(done, sets, places[g * 8 + j], t, true) {
             return false;
         }
         j += 1;

@@ -5,9 +5,9 @@ use mathlib.Core.Bool.{Bool, true, false}
 use mathlib.Core.List.{List, [], _∷_, _++_, map}
 use Prim.Native.Nat.{ℕ, _<_, _≤_}
 use native.Mathlib.Omega.{arith}
-use lib.ListN.{getD}
+use lib.ListN.{length, getD, take}
 use Rattle.lists.specs.Entries.{_∈_, Number}
-use Rattle.word.specs.Word.{bit}
+use Rattle.word.specs.Word.{bit, val}
 use Rattle.rule.specs.Net.{Net}
 use Rattle.rule.specs.Rule.{value, Rest}
 use Rattle.rule.specs.Steps.{Joined, GoodOrder, stepList}
@@ -15,6 +15,7 @@ use Rattle.rule.specs.Numbers.{numberOf}
 use Rattle.rule.specs.declared.Refusal.{Refusal}
 use Rattle.rule.specs.declared.Refusal.the-variants.{OrderLength, OrderEntry, OrderEarly}
 use Rattle.rule.specs.declared.Answer.the-variants.{Done, Refused}
+use Rattle.rule.proofs.StepLists.{list-number}
 use Rattle.wiring.specs.declared.Verdict.{Verdict}
 use Rattle.records.specs.Written.{Bytes}
 use Rattle.card.specs.declared.Session.{Session}
@@ -26,19 +27,22 @@ use Rattle.card.proofs.Kept.{card-fits}
 use Rattle.card.proofs.Verdicts.{taken, load-takes, load-taken, load-refuses, load-refused}
 use Rattle.session.specs.Good.{Good}
 use Rattle.session.specs.Inputs.{given, givenTo}
-use Rattle.session.specs.Moves.{restOf, vectorOf}
+use Rattle.session.specs.Moves.{ends, restOf, vectorOf}
 use Rattle.session.specs.Allowed.{Vector, gets-12, gets-10, gets-11}
 use Rattle.session.specs.Sequence.{after, stateAfter}
 use Rattle.session.proofs.Kept.{none-good, load-good, rest-good, vector-good}
-use Rattle.session.proofs.Refusals.{vector-fits}
+use Rattle.session.proofs.Held.{given-card}
+use Rattle.session.proofs.Refusals.{vector-fits, vector-takes}
+use Rattle.session.proofs.Rules.{vector-rule}
 use Rattle.session.proofs.Sequences.{sequence-rule}
+use Rattle.steps.specs.Listing.{stepAt}
 use Rattle.steps.specs.Vector.{ranAlong, stepsVectorOf}
 use Rattle.steps.proofs.Engines.{AnyOrder, run-any-order, steps-number, engines-equal}
 use Rattle.bench.specs.Orders.{stepsOf, orderJudged}
-use Rattle.bench.specs.Bench.{benchOf}
-use Rattle.bench.specs.Allowed.{BenchGets, gets-vector, gets-15, gets-16, gets-17, gets-19, gets-18}
+use Rattle.bench.specs.Bench.{Benched, benchOf}
+use Rattle.bench.specs.Allowed.{stepsIn, Doing, BenchGets, gets-vector, gets-15, gets-16, gets-17, gets-19, gets-18}
 use Rattle.bench.proofs.Judging.{Fit, good-fit, Judgement, judgement, gets-15 as judged-15, gets-16 as judged-16, gets-17 as judged-17, taken as judged-taken}
-use Rattle.bench.proofs.Benches.{bench-refuses, bench-refused, bench-good}
+use Rattle.bench.proofs.Benches.{bench-refuses, bench-refused, bench-answers, bench-proper, bench-others, bench-whole, bench-stays, bench-good}
 use Rattle.demands.specs.Operations.{Engine, fields, steps, vectorBy, Operation, load, rest, vector, history, list, records, ask, trace, bench, lentTo, outcome, Turn, afterBy}
 use Rattle.demands.proofs.Refusing.{Same, keeps}
 
@@ -192,3 +196,56 @@ module _ (s : Session) (g : Good s) (rested : s .rested ≡ true) (v : List ℕ)
 
   pub demand-3-refusals : (GoodOrder c (stepsOf c order) → ¬ TurnedAway) × (¬ GoodOrder c (stepsOf c order) → TurnedAway)
   demand-3-refusals = (takes-good, turns-away)
+
+  -- "It takes a vector, an order and a number k, and does the first k steps."
+  module _ (good : GoodOrder c (stepsOf c order)) (asked : k ≤ length order) where
+    abbrev pub benched : Benched
+    benched = benchOf s v order k room
+
+    -- the rule's value of a net at a time
+    abbrev pub ruled : ℕ → ℕ → Bool
+    ruled n t = value c (ends s) (givenTo c v) n t
+
+    given-same : given (s .kinds) v ≡ givenTo c v
+    given-same = λ i n. given-card s card v n i
+
+    whole : length order ≡ stepsIn s
+    whole = good-fit c (card .accepted .free) (card-fits s card .pinned) order good .long
+
+    doing : stepsIn s ≤ length room → Doing s v order k room
+    doing roomy = record { rested = rested; vector = fits; order-good = good; asked = omega (arith, whole); roomy = roomy }
+
+    -- "It writes one byte for each step number: the step's value if it is among the first k, else 2."
+    pub record BenchValues : Type 0 where
+      pub done : benched .moved .answer ≡ Done k
+      pub first : (e : ℕ) → e ∈ take k order → let step = stepAt (stepList c) e in getD (benched .room) e 0 ≡ val (ruled (step .net) (step .time))
+      pub others : (e : ℕ) → e < stepsIn s → ¬ (e ∈ take k order) → getD (benched .room) e 0 ≡ 2
+
+    pub demand-3-bench-values : stepsIn s ≤ length room → BenchValues
+    demand-3-bench-values roomy = record {
+      done = bench-answers s g v order k room (doing roomy);
+      first = λ e m. let step = stepAt (stepList c) e in bench-proper s g v order k room (doing roomy) e m ∙ ap (λ new. val (value c (ends s) new (step .net) (step .time))) given-same;
+      others = bench-others s g v order k room (doing roomy);
+    }
+
+    -- k the whole list: the session moves "exactly as a vector moves it", "the whole run ends with the rule's history and state" and counts the chain pairs
+    pub record BenchWhole : Type 0 where
+      pub as-vector : benched .moved .session ≡ vectorOf s v .session
+      pub history : (n : ℕ) → n < s .nets → (t : ℕ) → t < 64 → bit (getD (benched .moved .session .words) n 0) t ≡ ruled n t
+      pub before : (n : ℕ) → n < s .nets → getD (benched .moved .session .before) n false ≡ ends s n
+      pub count : (m : ℕ) × (benched .moved .answer ≡ Done m) × Number (Joined c) m
+
+    pub demand-3-bench-whole : stepsIn s ≤ length room → k ≡ length order → BenchWhole
+    demand-3-bench-whole roomy all =
+        let left = bench-whole s g v order k room (doing roomy) (all ∙ whole) in
+        let same : benched .moved .session ≡ vectorOf s v .session = ap (λ m. m .session) left ∙ sym (ap (λ m. m .session) (vector-takes s v rested fits)) in
+        record {
+          as-vector = same;
+          history = λ n l t b. ap (λ x. bit (getD (x .words) n 0) t) same ∙ vector-rule s g rested v fits n l .0 t b ∙ ap (λ new. value c (ends s) new n t) given-same;
+          before = λ n l. ap (λ x. getD (x .before) n false) same ∙ vector-rule s g rested v fits n l .1;
+          count = (stepsIn s, ap (λ m. m .answer) left, list-number c (card .accepted .free) (card-fits s card .pinned));
+        }
+
+    -- "The session moves only when k is the whole list": for a smaller k it stays
+    pub demand-3-bench-part : k < length order → benched .moved .session ≡ s
+    demand-3-bench-part part = bench-stays s g v order k room (omega (arith, whole))

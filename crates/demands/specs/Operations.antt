@@ -1,21 +1,23 @@
 -- Every public operation, by its own definition: what it is given, and what it hands back of number, count, session and lent room. Assumes nothing.
+use mathlib.Core.Path.{_≡_}
 use mathlib.Core.List.{List, [], _∷_}
 use Prim.Native.Nat.{ℕ}
 use Rattle.rule.specs.declared.Answer.{Answer}
 use Rattle.rule.specs.declared.NetAnswer.{NetAnswer}
 use Rattle.rule.specs.Numbers.{answerNumber, answerCount, netNumber, netLevel, netWord}
 use Rattle.card.specs.declared.Session.{Session}
+use Rattle.card.specs.declared.Loaded.{Loaded}
 use Rattle.card.specs.Load.{loadOf}
 use Rattle.card.specs.Asked.{netAsked}
 use Rattle.session.specs.declared.Moved.{Moved}
 use Rattle.session.specs.Moves.{restOf, vectorOf}
-use Rattle.history.specs.Told.{historyOf}
-use Rattle.history.specs.Traced.{traceOf}
-use Rattle.steps.specs.Listing.{listOf}
+use Rattle.history.specs.Told.{Told, historyOf}
+use Rattle.history.specs.Traced.{Traced, traceOf}
+use Rattle.steps.specs.Listing.{Listed, listOf}
 use Rattle.steps.specs.Vector.{stepsVectorOf}
 use Rattle.step_records.specs.declared.StepRecord.{StepRecord}
-use Rattle.step_records.specs.Records.{recordsOf}
-use Rattle.bench.specs.Bench.{benchOf}
+use Rattle.step_records.specs.Records.{Answered, recordsOf}
+use Rattle.bench.specs.Bench.{Benched, benchOf}
 
 -- "both engines, the step list and the bit-fields"
 pub data Engine : Type 0 where
@@ -73,16 +75,48 @@ answered a s lent = record { number = answerNumber a; count = answerCount a; lev
 abbrev pub told : NetAnswer → Session → Outcome
 told a s = record { number = netNumber a; count = 0; level = netLevel a; word = netWord a; session = s; lent = slices [] }
 
+-- the result of the operation's function, with the lent room that it leaves
+abbrev pub Result : Operation → Type 0
+Result (load b) = Loaded
+Result (rest v) = Moved
+Result (vector e v) = Moved
+Result (history ws bs fs) = Told
+Result (list ns ts) = Listed
+Result (records room) = Answered
+Result (ask n) = NetAnswer
+Result (trace n t room) = Traced
+Result (bench v order k room) = Benched
+
+-- the one that its definition names
+abbrev pub resultOf : Session → (o : Operation) → Result o
+resultOf s (load b) = loadOf s b
+resultOf s (rest v) = restOf s v
+resultOf s (vector e v) = vectorBy e s v
+resultOf s (history ws bs fs) = historyOf s ws bs fs
+resultOf s (list ns ts) = listOf s ns ts
+resultOf s (records room) = recordsOf s room
+resultOf s (ask n) = netAsked s n
+resultOf s (trace n t room) = traceOf s n t room
+resultOf s (bench v order k room) = benchOf s v order k room
+
+-- the results that the function's contract allows
+abbrev pub Allowed : Session → (o : Operation) → Result o → Type 0
+Allowed s o r = r ≡ resultOf s o
+
+-- what a result hands back
+abbrev pub handed : Session → (o : Operation) → Result o → Outcome
+handed s (load b) r = answered (r .answer) (r .session) (slices [])
+handed s (rest v) r = answered (r .answer) (r .session) (slices [])
+handed s (vector e v) r = answered (r .answer) (r .session) (slices [])
+handed s (history ws bs fs) r = answered (r .answer) s (slices (r .words ∷ r .befores ∷ r .flags ∷ []))
+handed s (list ns ts) r = answered (r .answer) s (slices (r .nets ∷ r .times ∷ []))
+handed s (records room) r = answered (r .answer) s (record { numbers = []; structs = r .room })
+handed s (ask n) r = told r s
+handed s (trace n t room) r = answered (r .answer) s (slices (r .room ∷ []))
+handed s (bench v order k room) r = answered (r .moved .answer) (r .moved .session) (slices (r .room ∷ []))
+
 abbrev pub outcome : Session → Operation → Outcome
-outcome s (load b) = let l = loadOf s b in answered (l .answer) (l .session) (slices [])
-outcome s (rest v) = let m = restOf s v in answered (m .answer) (m .session) (slices [])
-outcome s (vector e v) = let m = vectorBy e s v in answered (m .answer) (m .session) (slices [])
-outcome s (history ws bs fs) = let h = historyOf s ws bs fs in answered (h .answer) s (slices (h .words ∷ h .befores ∷ h .flags ∷ []))
-outcome s (list ns ts) = let l = listOf s ns ts in answered (l .answer) s (slices (l .nets ∷ l .times ∷ []))
-outcome s (records room) = let r = recordsOf s room in answered (r .answer) s (record { numbers = []; structs = r .room })
-outcome s (ask n) = told (netAsked s n) s
-outcome s (trace n t room) = let r = traceOf s n t room in answered (r .answer) s (slices (r .room ∷ []))
-outcome s (bench v order k room) = let b = benchOf s v order k room in answered (b .moved .answer) (b .moved .session) (slices (b .room ∷ []))
+outcome s o = handed s o (resultOf s o)
 
 -- vectors one after another, each by an engine of its own
 pub record Turn : Type 0 where

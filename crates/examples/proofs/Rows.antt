@@ -34,7 +34,7 @@ use Rattle.session.specs.Good.{histories}
 use Rattle.session.specs.Moves.{ends, movedBy, vectorOf, settled, restedBy, restOf}
 use Rattle.history.specs.Told.{historyOf}
 use Rattle.history.specs.Traced.{wayBack, traceOf}
-use Rattle.steps.specs.Variables.{varsOf, wordsOf, readIn, stepIn, ran, historyOf as historyWord, historiesFrom}
+use Rattle.steps.specs.Variables.{heldIn, wordsOf, readIn, stepIn, ran, historyOf as historyWord, historiesFrom}
 use Rattle.steps.specs.Listing.{listOf}
 use Rattle.steps.specs.Vector.{startVars, ranAlong, ranSession, stepsVectorOf}
 use Rattle.bench.specs.Orders.{entriesFit, orderReady, orderJudged}
@@ -43,7 +43,8 @@ use Rattle.text.specs.Text.{digitsIn, decimal}
 use Rattle.sheet_text.specs.Lines.{refusedLine, firstLine, values, netLine, cardText, historyLine, vectorText}
 use Rattle.sheet_text.specs.Walk.{endFrom, cardEnd, entryIn, entryAt}
 use Rattle.sheet_text.specs.Sheet.{recordsText, loadedText, sheetOf}
-use Rattle.examples.specs.Calls.{Engine, fields, steps, Call, Reply, replies}
+use Rattle.demands.specs.Operations.{Engine, fields, steps}
+use Rattle.examples.specs.Calls.{Call, Reply, replies}
 use Rattle.examples.specs.Table.{Line, table}
 
 -- two lists are the same, by a test of their entries
@@ -63,39 +64,42 @@ abbrev sameRooms : List (List ℕ) → List (List ℕ) → Bool
 sameRooms xs ys = sameBy (sameBy eqb) xs ys
 
 abbrev sameReply : Reply → Reply → Bool
-sameReply a b = eqb (a .number) (b .number) && (eqb (a .count) (b .count) && sameRooms (a .rooms) (b .rooms))
+sameReply a b =
+    eqb (a .number) (b .number) && (eqb (a .count) (b .count) && (eqb (a .level) (b .level) && (eqb (a .word) (b .word) && sameRooms (a .rooms) (b .rooms))))
 
 reply-same : (a b : Reply) → sameReply a b ≡ true → a ≡ b
 reply-same a b e =
     let x = and-both (eqb (a .number) (b .number)) _ e in
     let y = and-both (eqb (a .count) (b .count)) _ (x .1) in
+    let z = and-both (eqb (a .level) (b .level)) _ (y .1) in
+    let u = and-both (eqb (a .word) (b .word)) _ (z .1) in
     let n = eqb-true (a .number) (b .number) (x .0) in
     let c = eqb-true (a .count) (b .count) (y .0) in
-    let r = same-by (sameBy eqb) (same-by eqb eqb-true) (a .rooms) (b .rooms) (y .1) in
-    λ i. record { number = n i; count = c i; rooms = r i }
+    let l = eqb-true (a .level) (b .level) (z .0) in
+    let w = eqb-true (a .word) (b .word) (u .0) in
+    let r = same-by (sameBy eqb) (same-by eqb eqb-true) (a .rooms) (b .rooms) (u .1) in
+    λ i. record { number = n i; count = c i; level = l i; word = w i; rooms = r i }
 
--- the calls of a row, and what they must hand back by an engine
+-- the calls of a row, and what they must hand back
 abbrev pub calls : List Line → List Call
 calls row = map (λ l. l .call) row
 
-abbrev pub expected : Engine → List Line → List Reply
-expected e row = map (λ l. l .reply e) row
+abbrev pub expected : List Line → List Reply
+expected row = map (λ l. l .reply) row
 
--- the test of a row: by both engines, from the empty session
-passes : Engine → List Line → Bool
-passes e row = sameBy sameReply (replies e none (calls row)) (expected e row)
+-- the test of a row, from the empty session
+passes : List Line → Bool
+passes row = sameBy sameReply (replies none (calls row)) (expected row)
 
-all-pass : every (λ row. passes fields row && passes steps row) table ≡ true
-unfolding passes table replies cardBytes netBytes u16At kindFits typeFits bodyFits netRecord recordAt readAt netMeant scan listed listedFrom loadOf judged none sessionOf wiredOf pinsFit mostBack openPin atPin netAt longest level depth gateOrder netSteps stepList pcSet setWords inputsOf count restOf vectorFits restedBy settled given rank value gate controls inverts controlled cardOf cardIn kindsOf typesOf countsOf placesOf openValue wordOf bit vectorOf movedBy histories ends historyOf flagOf changes causes wayBack traceOf netAsked listOf stepsVectorOf ranSession ranAlong startVars startAt ran stepIn readIn wordsOf varsOf historyWord historiesFrom greatest made step run ready readStep stepReads entriesFit orderReady orderJudged notDone benchDone benchOf digitsIn decimal refusedLine firstLine values netLine cardText historyLine vectorText endFrom cardEnd entryIn entryAt recordsText loadedText sheetOf
+all-pass : every passes (table fields) && every passes (table steps) ≡ true
+unfolding passes table replies cardBytes netBytes u16At kindFits typeFits bodyFits netRecord recordAt readAt netMeant scan listed listedFrom loadOf judged none sessionOf wiredOf pinsFit mostBack openPin atPin netAt longest level depth gateOrder netSteps stepList pcSet setWords inputsOf count restOf vectorFits restedBy settled given rank value gate controls inverts controlled cardOf cardIn kindsOf typesOf countsOf placesOf openValue wordOf bit vectorOf movedBy histories ends historyOf flagOf changes causes wayBack traceOf netAsked listOf stepsVectorOf ranSession ranAlong startVars startAt ran stepIn readIn wordsOf heldIn historyWord historiesFrom greatest made step run ready readStep stepReads entriesFit orderReady orderJudged notDone benchDone benchOf digitsIn decimal refusedLine firstLine values netLine cardText historyLine vectorText endFrom cardEnd entryIn entryAt recordsText loadedText sheetOf
 all-pass = refl
 
 -- each example's sentence: the calls of its row hand back what the row says, by either engine
-pub row-holds : (row : List Line) → row ∈ table → (e : Engine) → replies e none (calls row) ≡ expected e row
+pub row-holds : (e : Engine) (row : List Line) → row ∈ table e → replies none (calls row) ≡ expected row
 unfolding passes
-row-holds row m e =
-    let b = and-both (passes fields row) (passes steps row) (every-at (λ row. passes fields row && passes steps row) table all-pass row m) in
-    by-engine e (b .0) (b .1)
+row-holds e row m = same-by sameReply reply-same _ _ (every-at passes (table e) (by-engine e) row m)
   where
-    by-engine : (e : Engine) → passes fields row ≡ true → passes steps row ≡ true → replies e none (calls row) ≡ expected e row
-    by-engine fields f s = same-by sameReply reply-same _ _ f
-    by-engine steps f s = same-by sameReply reply-same _ _ s
+    by-engine : (e : Engine) → every passes (table e) ≡ true
+    by-engine fields = and-both (every passes (table fields)) _ all-pass .0
+    by-engine steps = and-both (every passes (table fields)) _ all-pass .1

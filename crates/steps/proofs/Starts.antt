@@ -29,7 +29,7 @@ use Rattle.session.specs.Inputs.{isInputKind}
 use Rattle.session.specs.Fields.{startAt}
 use Rattle.session.specs.Moves.{ends}
 use Rattle.session.proofs.States.{net-past}
-use Rattle.steps.specs.Variables.{varsOf}
+use Rattle.steps.specs.Variables.{heldIn, varsOf}
 use Rattle.steps.specs.Vector.{startVars}
 
 module _ (s : Session) (h : HasCard s) (r : Rested s) where
@@ -86,7 +86,7 @@ module _ (s : Session) (h : HasCard s) (r : Rested s) where
         ∙ kind-first n l
 
     start-at : (n : ℕ) → varsOf (startVars s new) (record { net = n; time = 0 }) ≡ value c (ends s) new n 0
-    unfolding varsOf value
+    unfolding heldIn value
     start-at n = go (ℕ-discrete n openPin) (decLt n 256)
       where
         f : ℕ → Bool

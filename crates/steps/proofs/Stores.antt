@@ -14,11 +14,11 @@ use Rattle.rule.specs.Net.{openValue}
 use Rattle.rule.specs.Run.{made, step}
 use Rattle.rule.specs.Steps.{Step, sameStep}
 use Rattle.rule.proofs.Nets.{at-net, not-open}
-use Rattle.steps.specs.Variables.{Words, varsOf, wordsOf, readsIn, fnIn, stepIn}
+use Rattle.steps.specs.Variables.{Words, heldIn, varsOf, wordsOf, readsIn, fnIn, stepIn}
 
 -- a net's variables are its word's bits
 pub var-net : (words : List ℕ) (n t : ℕ) → n < 256 → varsOf words (record { net = n; time = t }) ≡ bit (getD words n 0) t
-unfolding varsOf
+unfolding heldIn
 var-net words n t l = at-net openValue (λ m. bit (getD words m 0) t) n (not-open n (omega arith))
 
 -- the name of a variable of another net, and of the same net

@@ -30,7 +30,7 @@ use Rattle.card.specs.Session.{cardOf}
 use Rattle.card.specs.Held.{HasCard}
 use Rattle.card.proofs.Kept.{card-fits, card-pins, card-sets}
 use Rattle.session.proofs.Held.{gate-type}
-use Rattle.steps.specs.Variables.{varsOf, wordsOf, readIn, readsIn, fnIn, stepIn, Ran, ranFrom}
+use Rattle.steps.specs.Variables.{heldIn, varsOf, wordsOf, readIn, readsIn, fnIn, stepIn, Ran, ranFrom}
 use Rattle.steps.proofs.Stores.{var-net}
 use Rattle.steps.proofs.Cards.{step-low}
 
@@ -43,7 +43,7 @@ zero-in-same f g zero e = refl
 zero-in-same f g (suc u) e = e
 
 open-var : (words : List ℕ) (t : ℕ) → varsOf words (record { net = openPin; time = t }) ≡ openValue
-unfolding varsOf
+unfolding heldIn
 open-var words t = at-open openValue (λ n. bit (getD words n 0) t)
 
 word-held : (f : Step → Bool) (n : ℕ) → n < 256 → getD (wordsOf f) n 0 ≡ wordOf 64 (λ t. f (record { net = n; time = t }))

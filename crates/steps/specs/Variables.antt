@@ -21,9 +21,13 @@ pub record Words (words : List ℕ) : Type 0 where
   pub size : length words ≡ 256
   pub low : (n : ℕ) → getD words n 0 < 2 ^ 64
 
+-- what the words hold for a variable; for one of an open pin, which has no word, it is `loose`
+unfoldable pub heldIn : Bool → List ℕ → Step → Bool
+heldIn loose words k = atPin loose (λ n. bit (getD words n 0) (k .time)) (k .net)
+
 -- the variables that the words hold; those of an open pin have its value
-unfoldable pub varsOf : List ℕ → Step → Bool
-varsOf words k = atPin openValue (λ n. bit (getD words n 0) (k .time)) (k .net)
+abbrev pub varsOf : List ℕ → Step → Bool
+varsOf words = heldIn openValue words
 
 -- and the words that hold some variables
 unfoldable pub wordsOf : (Step → Bool) → List ℕ

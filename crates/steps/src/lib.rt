@@ -13,7 +13,7 @@ ghost use Rattle.card.specs.Session.{cardOf};
 ghost use Rattle.session.specs.Good.{Good};
 ghost use Rattle.session.specs.Fields.{Gates};
 ghost use Rattle.history.specs.Filled.{filled};
-ghost use Rattle.steps.specs.Variables.{Words, varsOf, readIn, readsIn, stepIn, ran, Doable, stepsOf, ordered, historyOf, historiesFrom};
+ghost use Rattle.steps.specs.Variables.{Words, heldIn, varsOf, readIn, readsIn, stepIn, ran, Doable, stepsOf, ordered, historyOf, historiesFrom};
 ghost use Rattle.steps.specs.Listing.{timeIn, timesIn, stepsIn, gatesIn, Holds, listOf};
 ghost use Rattle.steps.specs.Vector.{ranAlong, ranMove, stepsVectorOf};
 use card::Session;
@@ -26,17 +26,17 @@ use word::PcSet;
 // The most steps that a card may have.
 pub const MOST: usize = 4096;
 
-// The value of the variable that a pin is read by at time t: that of its largest element strictly below t. An open pin has its value.
-fn read_pin<'a>(vars: &[u64; 256], sets: &'a [u64; 256], p: u16, t: u32) -> bool
+// What an array has for the variable that a pin is read by at time t, that of its largest element strictly below t: for an open pin `loose`.
+pub fn read_at<'a>(words: &[u64; 256], sets: &'a [u64; 256], p: u16, t: u32, loose: bool) -> bool
     requires { ⌜ (0 < t) × ((p < 256) ⊎ (p ≡ openPin)) ⌝ }
-    ensures { λ r. ⌜ r ≡ varsOf (now (vars .entry)) (readIn (now (sets .entry)) t p) ⌝ }
+    ensures { λ r. ⌜ r ≡ heldIn loose (now (words .entry)) (readIn (now (sets .entry)) t p) ⌝ }
 {
     if p == wiring::OPEN {
-        return rule::open_value();
+        return loose;
     }
     let n = wiring::wide16(p);
     let set = PcSet { word: sets[n] };
-    let held = PcSet { word: vars[n] };
+    let held = PcSet { word: words[n] };
     held.has(set.with_zero().largest_below(t))
 }
 
@@ -56,10 +56,11 @@ fn arguments<'a>(
     ensures { λ r. ⌜ listed (λ (i : ℕ). getD r i false) (getD (now (counts .entry)) g 0) ≡ map (varsOf (now (vars .entry))) (readsIn (now (counts .entry)) (now (places .entry)) (now (sets .entry)) (record { net = g; time = t })) ⌝ }
 {
     let count = wiring::wide(counts[g]);
+    let loose = rule::open_value();
     let mut out = [false; 8];
     let mut j: usize = 0;
     while j < count {
-        out[j] = read_pin(vars, sets, places[g * 8 + j], t);
+        out[j] = read_at(vars, sets, places[g * 8 + j], t, loose);
         j += 1;
     }
     out

@@ -67,7 +67,7 @@ reads-done-requires c κs =
     let e = entry (c .before .before .before .before .before) in
     let g = c .before .before .before .wide162 .ensures in
     let t = c .before .narrow .ensures in
-    (s .pre .0, (s .pre .1 .0, (omega (arith, e .net), omega (arith, e .early), omega (arith, e .late))))
+    (s .pre .0, (s .pre .1 .0, (omega (arith, e .net), omega (arith, e .early))))
 
 returns : tie.Need-returns Inv-loop μ-loop
 returns c =

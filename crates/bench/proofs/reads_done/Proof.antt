@@ -32,30 +32,30 @@ loop-holds c =
     let e = c .wide .ensures in
     (omega arith, omega (arith, s .pre .0 .narrow (s .args .g)), rw (listed-none _))
 
-mul-pin-done : tie.Need-mul-pin-done Inv-loop μ-loop
-mul-pin-done c = search needs
+mul-read-at : tie.Need-mul-read-at Inv-loop μ-loop
+mul-read-at c = search needs
 
-add-pin-done : tie.Need-add-pin-done Inv-loop μ-loop
-add-pin-done c = search needs
+add-read-at : tie.Need-add-read-at Inv-loop μ-loop
+add-read-at c = search needs
 
-mul-pin-done-2 : tie.Need-mul-pin-done-2 Inv-loop μ-loop
-mul-pin-done-2 c = search needs
+mul-read-at-2 : tie.Need-mul-read-at-2 Inv-loop μ-loop
+mul-read-at-2 c = search needs
 
-element-copy-out-pin-done : tie.Need-element-copy-out-pin-done Inv-loop μ-loop
-element-copy-out-pin-done c = search needs
+element-copy-out-read-at : tie.Need-element-copy-out-read-at Inv-loop μ-loop
+element-copy-out-read-at c = search needs
 
-pin-done-requires : tie.Need-pin-done-requires Inv-loop μ-loop
-pin-done-requires c κs =
+read-at-requires : tie.Need-read-at-requires Inv-loop μ-loop
+read-at-requires c κs =
     let s = c .before .before .before .before .before in
     let e = c .before .before .before .wide .ensures in
-    (pin-fitting (s .args .counts .now) (s .args .places .now) (s .args .n) (s .args .g) (c .before .before .loop .j) (s .pre .0) (s .pre .1 .0) (omega arith), (s .pre .1 .1 .1, s .pre .1 .1 .2))
+    (s .pre .1 .1 .1, pin-fitting (s .args .counts .now) (s .args .places .now) (s .args .n) (s .args .g) (c .before .before .loop .j) (s .pre .0) (s .pre .1 .0) (omega arith))
 
 returns : tie.Need-returns Inv-loop μ-loop
 returns c =
     let s = c .before .before .before .before .before .before .before in
     let e = c .before .before .before .before .before .wide .ensures in
     let a = s .args in
-    pins-not (a .done .now) (a .counts .now) (a .places .now) (a .sets .now) (a .g) (a .t) (c .before .before .before .before .loop .j) (omega arith) (sym (c .before .pin-done .ensures) ∙ not-true _ (c .if1 .taken))
+    pins-not (a .done .now) (a .counts .now) (a .places .now) (a .sets .now) (a .g) (a .t) (c .before .before .before .before .loop .j) (omega arith) (sym (c .before .read-at .ensures) ∙ not-true _ (c .if1 .taken))
 
 add-j : tie.Need-add-j Inv-loop μ-loop
 add-j c = search needs
@@ -66,7 +66,7 @@ loop-less c = search needs
 loop-again : tie.Need-loop-again Inv-loop μ-loop
 loop-again c =
     let l = c .before .before .before .before .loop in
-    (omega arith, omega arith, every-more _ _ (l .j) (l .inv .2) (sym (c .before .pin-done .ensures) ∙ not-false _ (c .if1 .left)))
+    (omega arith, omega arith, every-more _ _ (l .j) (l .inv .2) (sym (c .before .read-at .ensures) ∙ not-false _ (c .if1 .left)))
 
 returns-2 : tie.Need-returns-2 Inv-loop μ-loop
 returns-2 c =
@@ -84,11 +84,11 @@ reads-done-spec =
     element-copy-out-wide
     wide-requires
     loop-holds
-    mul-pin-done
-    add-pin-done
-    mul-pin-done-2
-    element-copy-out-pin-done
-    pin-done-requires
+    mul-read-at
+    add-read-at
+    mul-read-at-2
+    element-copy-out-read-at
+    read-at-requires
     returns
     add-j
     loop-less

@@ -1,12 +1,12 @@
--- `steps::read_pin` meets its contract. Assumes nothing.
+-- `steps::read_at` meets its contract. Assumes nothing.
 use mathlib.Core.Logic.{⊎-elim}
 use Prim.Native.Nat.{_<_}
 use native.Mathlib.Omega.{arith}
 use Rattle.rule.specs.Net.{openPin}
 use Rattle.steps.proofs.Pins.{read-open, read-net}
 use borrow.Author.Needs.{needs}
-use Rattle.steps.proofs.read_pin.Statement.{statement}
-use Rattle.steps.proofs.read_pin.Tie as tie
+use Rattle.steps.proofs.read_at.Statement.{statement}
+use Rattle.steps.proofs.read_at.Tie as tie
 
 -- a pin that is not open names a net
 below : (c : tie.After-wide16) → c .wide16 .result < 256
@@ -15,27 +15,24 @@ below c =
     let e = c .wide16 .ensures in
     ⊎-elim (λ l. omega arith) (λ q. absurd (c .before .if1 .left q)) (c .before .before .pre .1)
 
-open-value-requires : tie.Need-open-value-requires
-open-value-requires c κs = search needs
-
 returns : tie.Need-returns
 unfolding openPin
-returns c = let a = c .before .before .args in read-open (a .vars .now) (a .sets .now) (a .t) (a .p) (c .open-value .result) (c .before .if1 .taken) (c .open-value .ensures)
+returns c = let a = c .before .args in read-open (a .loose) (a .words .now) (a .sets .now) (a .t) (a .p) (c .if1 .taken)
 
 wide16-requires : tie.Need-wide16-requires
 wide16-requires c κs = search needs
 
-mul-t9 : tie.Need-mul-t9
-mul-t9 c = search needs
+mul-t10 : tie.Need-mul-t10
+mul-t10 c = search needs
 
-element-copy-out-t12 : tie.Need-element-copy-out-t12
-element-copy-out-t12 c = below c
+element-copy-out-t13 : tie.Need-element-copy-out-t13
+element-copy-out-t13 c = below c
 
-mul-t9-2 : tie.Need-mul-t9-2
-mul-t9-2 c = search needs
+mul-t10-2 : tie.Need-mul-t10-2
+mul-t10-2 c = search needs
 
-element-copy-out-t12-2 : tie.Need-element-copy-out-t12-2
-element-copy-out-t12-2 c = below (c .before)
+element-copy-out-t13-2 : tie.Need-element-copy-out-t13-2
+element-copy-out-t13-2 c = below (c .before)
 
 with-zero-requires : tie.Need-with-zero-requires
 with-zero-requires c κs = search needs
@@ -50,20 +47,19 @@ returns-2 : tie.Need-returns-2
 unfolding openPin
 returns-2 c =
     let a = c .before .before .before .before .before .before .before .args in
-    read-net (a .vars .now) (a .sets .now) (a .t) (a .p) _ _ _ _ (c .before .before .before .before .before .before .before .pre .0) (c .before .before .before .before .before .before .if1 .left) (c .before .before .before .before .before .wide16 .ensures)
+    read-net (a .loose) (a .words .now) (a .sets .now) (a .t) (a .p) _ _ _ _ (c .before .before .before .before .before .before .before .pre .0) (c .before .before .before .before .before .before .if1 .left) (c .before .before .before .before .before .wide16 .ensures)
     (c .before .before .with-zero .ensures) (c .before .largest-below .ensures) (c .has .ensures)
 
-pub read-pin-spec : {M : Type 1} → statement M
-read-pin-spec =
+pub read-at-spec : {M : Type 1} → statement M
+read-at-spec =
     tie.close
     (tie.spec
-    open-value-requires
     returns
     wide16-requires
-    mul-t9
-    element-copy-out-t12
-    mul-t9-2
-    element-copy-out-t12-2
+    mul-t10
+    element-copy-out-t13
+    mul-t10-2
+    element-copy-out-t13-2
     with-zero-requires
     largest-below-requires
     has-requires
