@@ -1,12 +1,12 @@
 // What a gate gives of its pins: of one value each, and of one word each, in which bit t is the value at time t. The words are taken in pin by pin.
 ghost use mathlib.Core.Path.{_≡_};
-ghost use mathlib.Core.Bool.{false, not};
+ghost use mathlib.Core.Bool.{false};
 ghost use Prim.Native.Nat.{ℕ, _<_, _≤_};
 ghost use lib.ListN.{getD};
 ghost use Rattle.lists.specs.Entries.{some};
 ghost use Rattle.lists.specs.Listed.{listed};
 ghost use Rattle.word.specs.Word.{bit, differ, movedUp};
-ghost use Rattle.gate.specs.Pins.{withPin, ofPins};
+ghost use Rattle.gate.specs.Pins.{Spread, withPin, ofPins};
 ghost use Rattle.gate.specs.Gate.{controls, inverts, controlled, odd, gate};
 
 pub struct Rule {
@@ -111,45 +111,50 @@ pub fn gate_bit(ty: usize, pins: &[bool; 8], n: usize) -> bool
     odd_of(pins, n) ^ rule.inversion
 }
 
-// The word of the value that does not control a gate.
-pub fn other_word(ty: usize) -> u64
+// A gate type's row at every time: the value that does not control, and the inversion.
+pub struct Row {
+    pub other: u64,
+    pub inversion: u64,
+}
+
+// A type's row.
+pub fn row_of(ty: usize) -> Row
     requires { ⌜ ty < 8 ⌝ }
-    ensures { λ r. ⌜ ((t : ℕ) → t < 64 → bit r t ≡ not (controls ty)) ⌝ }
+    ensures { λ r. ⌜ Spread ty (r .other) (r .inversion) ⌝ }
 {
     let rule = rule_of(ty);
-    word::spread(!rule.controlling)
+    Row {
+        other: word::spread(!rule.controlling),
+        inversion: word::spread(rule.inversion),
+    }
 }
 
 // Pin by pin, at every time: what the pins so far come to, with one more. From none it is 0. The table is read once a gate, not once a pin.
-pub fn with_pin(ty: usize, other: u64, known: u64, pin: u64) -> u64
-    requires { ⌜ ((t : ℕ) → t < 64 → bit other t ≡ not (controls ty)) ⌝ }
+pub fn with_pin(ty: usize, row: Row, known: u64, pin: u64) -> u64
+    requires { ⌜ Spread ty (row .other) (row .inversion) ⌝ }
     ensures { λ r. ⌜ ((t : ℕ) → t < 64 → bit r t ≡ withPin ty (bit known t) (bit pin t)) ⌝ }
 {
     if ty < 6 {
-        return known | (pin ^ other);
+        return known | (pin ^ row.other);
     }
     known ^ pin
 }
 
 // A gate's word of what all its pins come to.
-fn gate_word(ty: usize, other: u64, all: u64) -> u64
-    requires { ⌜ ty < 8 ⌝ }
-    requires { ⌜ ((t : ℕ) → t < 64 → bit other t ≡ not (controls ty)) ⌝ }
+fn gate_word(ty: usize, row: Row, all: u64) -> u64
+    requires { ⌜ Spread ty (row .other) (row .inversion) ⌝ }
     ensures { λ r. ⌜ ((t : ℕ) → t < 64 → bit r t ≡ ofPins ty (bit all t)) ⌝ }
 {
-    let rule = rule_of(ty);
-    let inversion = word::spread(rule.inversion);
     if ty < 6 {
-        return all ^ other ^ inversion;
+        return all ^ row.other ^ row.inversion;
     }
-    all ^ inversion
+    all ^ row.inversion
 }
 
 // A gate's field of what all its pins come to: its word, moved up by one, with the before value in bit 0.
-pub fn field(ty: usize, other: u64, all: u64, before: bool) -> u64
-    requires { ⌜ ty < 8 ⌝ }
-    requires { ⌜ ((t : ℕ) → t < 64 → bit other t ≡ not (controls ty)) ⌝ }
+pub fn field(ty: usize, row: Row, all: u64, before: bool) -> u64
+    requires { ⌜ Spread ty (row .other) (row .inversion) ⌝ }
     ensures { λ r. ⌜ ((t : ℕ) → t < 64 → bit r t ≡ movedUp before (λ u. ofPins ty (bit all u)) t) ⌝ }
 {
-    word::up(gate_word(ty, other, all), before)
+    word::up(gate_word(ty, row, all), before)
 }

@@ -1,14 +1,13 @@
 // A card at rest, and a vector by fields.
 ghost use mathlib.Core.Path.{_≡_};
-ghost use mathlib.Core.Bool.{true, false, not, cond};
+ghost use mathlib.Core.Bool.{true, false, cond};
 ghost use mathlib.Core.List.{map};
 ghost use Prim.Native.Nat.{ℕ, _<_, _≤_};
 ghost use lib.ListN.{length, getD};
 ghost use Rattle.lists.specs.Entries.{every};
 ghost use Rattle.lists.specs.Listed.{listed};
 ghost use Rattle.word.specs.Word.{bit, wordOf};
-ghost use Rattle.gate.specs.Gate.{controls};
-ghost use Rattle.gate.specs.Pins.{byPins};
+ghost use Rattle.gate.specs.Pins.{Spread, byPins};
 ghost use Rattle.rule.specs.Net.{openValue};
 ghost use Rattle.wiring.specs.Layout.{pinsAt};
 ghost use Rattle.wiring.specs.Wires.{Wires, Fitting};
@@ -113,12 +112,12 @@ fn gather<'a>(
     places: &'a [u16; 2048],
     n: usize,
     ty: usize,
-    other: u64,
+    row: gate::Row,
     g: usize,
 ) -> u64
     requires { ⌜ Wires (now counts) (now places) n ⌝ }
     requires { ⌜ Fitting (now counts) (now places) n ⌝ }
-    requires { ⌜ (g < 256) × ((t : ℕ) → t < 64 → bit other t ≡ not (controls ty)) ⌝ }
+    requires { ⌜ (g < 256) × Spread ty (row .other) (row .inversion) ⌝ }
     ensures { λ r. ⌜ ((t : ℕ) → t < 64 → bit r t ≡ byPins ty (map (λ w. bit w t) (map (pinWord (now (words .entry))) (pinsAt (now (counts .entry)) (now (places .entry)) g)))) ⌝ }
 {
     let count = wiring::wide(counts[g]);
@@ -126,7 +125,7 @@ fn gather<'a>(
     let mut known: u64 = 0;
     let mut j: usize = 0;
     while j < count {
-        known = gate::with_pin(ty, other, known, wiring::at_pin(words, places[g * 8 + j], open));
+        known = gate::with_pin(ty, row, known, wiring::at_pin(words, places[g * 8 + j], open));
         j += 1;
     }
     known
@@ -155,9 +154,9 @@ fn field_of<'a>(
     ensures { λ r. ⌜ r ≡ fieldOf (bit (getD (now (words .entry)) g 0) 63) (getD (now (types .entry)) g 0) (map (pinWord (now (words .entry))) (pinsAt (now (counts .entry)) (now (places .entry)) g)) ⌝ }
 {
     let ty = wiring::wide(types[g]);
-    let other = gate::other_word(ty);
-    let all = gather(words, counts, places, n, ty, other, g);
-    gate::field(ty, other, all, top(words[g]))
+    let row = gate::row_of(ty);
+    let all = gather(words, counts, places, n, ty, row, g);
+    gate::field(ty, row, all, top(words[g]))
 }
 
 // The fields of the gates, along their order, from words that end in the before values.

@@ -11,11 +11,11 @@ use Rattle.gate.proofs.with_pin.Tie as tie
 
 returns : tie.Need-returns
 returns c t l =
-    let s = c .before in
+    let s = c .before .before in
     let a = s .args in
-    bit-or (a .known) (bitXor (a .pin) (a .other)) t
-    ∙ ap (λ b. bit (a .known) t || b) (bit-xor (a .pin) (a .other) t)
-    ∙ pin-control (a .ty) (bit (a .known) t) (bit (a .pin) t) (omega arith) (s .pre t l)
+    bit-or (a .known) (bitXor (a .pin) (a .row .other)) t
+    ∙ ap (λ b. bit (a .known) t || b) (bit-xor (a .pin) (a .row .other) t)
+    ∙ pin-control (a .ty) (bit (a .known) t) (bit (a .pin) t) (omega arith) (s .pre .others t l)
 
 returns-2 : tie.Need-returns-2
 returns-2 c t l =

@@ -18,11 +18,11 @@ element-copy-out-wide c = search needs
 wide-requires : tie.Need-wide-requires
 wide-requires c κs = search needs
 
-other-word-requires : tie.Need-other-word-requires
-other-word-requires c κs = omega (arith, c .wide .ensures, c .before .before .pre .1 .1 .type)
+row-of-requires : tie.Need-row-of-requires
+row-of-requires c κs = omega (arith, c .wide .ensures, c .before .before .pre .1 .1 .type)
 
 gather-requires : tie.Need-gather-requires
-gather-requires c κs = let s = c .before .before .before in (s .pre .0, (s .pre .1 .0, (s .pre .1 .1 .net, c .other-word .ensures)))
+gather-requires c κs = let s = c .before .before .before in (s .pre .0, (s .pre .1 .0, (s .pre .1 .1 .net, c .row-of .ensures)))
 
 mul-top : tie.Need-mul-top
 mul-top c = search needs
@@ -34,7 +34,7 @@ top-requires : tie.Need-top-requires
 top-requires c κs = search needs
 
 field-requires : tie.Need-field-requires
-field-requires c κs = (omega (arith, c .before .before .before .before .wide .ensures, c .before .before .before .before .before .before .pre .1 .1 .type), c .before .before .before .other-word .ensures)
+field-requires c κs = c .before .before .before .row-of .ensures
 
 returns : tie.Need-returns
 returns c =
@@ -55,7 +55,7 @@ field-of-spec =
     (tie.spec
     element-copy-out-wide
     wide-requires
-    other-word-requires
+    row-of-requires
     gather-requires
     mul-top
     element-copy-out-top

@@ -17,10 +17,10 @@ use Rattle.session.proofs.gather.Statement.{statement}
 use Rattle.session.proofs.gather.Tie as tie
 
 abbrev Inv-loop : tie.InvT-loop
-Inv-loop words counts places n ty other g count «open» known₀ j₀ known j = (j ≤ count) × (count ≤ 8) × ((t : ℕ) → t < 64 → bit known t ≡ byPins ty (listed (pin words places g t) j))
+Inv-loop words counts places n ty row g count «open» known₀ j₀ known j = (j ≤ count) × (count ≤ 8) × ((t : ℕ) → t < 64 → bit known t ≡ byPins ty (listed (pin words places g t) j))
 
 abbrev μ-loop : tie.MeasureT-loop
-μ-loop words counts places n ty other g count «open» known₀ j₀ known j = count - j
+μ-loop words counts places n ty row g count «open» known₀ j₀ known j = count - j
 
 element-copy-out-wide : tie.Need-element-copy-out-wide Inv-loop μ-loop
 element-copy-out-wide c = search needs
