@@ -1,6 +1,6 @@
 -- Loops over a gate's pins, one more pin, and what the code makes of a controlling value. Over any number of pins. Assumes nothing.
 use mathlib.Core.Path.{_≡_, refl, sym, ap, ap₂, _∙_}
-use mathlib.Core.Bool.{Bool, true, false, not, _||_, cond, Bool·beq, or-false}
+use mathlib.Core.Bool.{Bool, true, false, not, _||_, _&&_, cond, Bool·beq, or-false, and-true}
 use mathlib.Core.List.{List, [], _∷_, _++_}
 use Prim.Native.Nat.{ℕ, zero, suc, _+_, _≤_, _<_}
 use native.Mathlib.Omega.{arith}
@@ -8,9 +8,9 @@ use native.Mathlib.Decide.{decLt}
 use lib.Dec.{ltb}
 use lib.ListN.{length, getD}
 use borrow.Author.Tests.{lt-ltb, le-ltb}
-use Rattle.lists.specs.Entries.{some}
+use Rattle.lists.specs.Entries.{some, every}
 use Rattle.lists.specs.Listed.{listed}
-use Rattle.lists.proofs.Tests.{some-ext, some-append}
+use Rattle.lists.proofs.Tests.{some-ext, some-append, every-append}
 use Rattle.lists.proofs.Listed.{listed-none, listed-more, listed-at}
 use Rattle.word.specs.Word.{differ}
 use Rattle.gate.specs.Pins.{byPins, withPin, ofPins}
@@ -91,65 +91,77 @@ module _ (ty : ℕ) (g : ℕ → Bool) (n : ℕ) where
 
 -- Pin by pin
 
+-- some pin is 0, or every pin is 1
+pub by-zero : (ps : List Bool) → cond (some (λ p. Bool·beq p false) ps) false true ≡ every (λ p. p) ps
+by-zero [] = refl
+by-zero (true ∷ ps) = by-zero ps
+by-zero (false ∷ ps) = refl
+
+-- some pin is 1, or none is
+pub by-one : (ps : List Bool) → cond (some (λ p. Bool·beq p true) ps) true false ≡ some (λ p. p) ps
+by-one [] = refl
+by-one (true ∷ ps) = refl
+by-one (false ∷ ps) = by-one ps
+
+every-more : (g : ℕ → Bool) (i : ℕ) → every (λ p. p) (listed g i) && g i ≡ every (λ p. p) (listed g (i + 1))
+every-more g i =
+    ap (λ b. every (λ p. p) (listed g i) && b) (sym (and-true (g i)))
+    ∙ sym (every-append (λ p. p) (listed g i) (g i ∷ [])) ∙ ap (every (λ p. p)) (sym (listed-more g i))
+
 module _ (ty : ℕ) where
-  pub by-none : (g : ℕ → Bool) → false ≡ byPins ty (listed g 0)
+  -- one pin comes to itself
+  by-single : (p : Bool) → byPins ty (p ∷ []) ≡ p
   unfolding byPins
-  by-none g = go (ltb ty 6)
+  by-single p = go (ltb ty 6) (controls ty)
     where
-      go : (b : Bool) → false ≡ cond b (some (λ p. differ p (not (controls ty))) (listed g 0)) (odd (listed g 0))
-      go true = some-none _ g
-      go false = odd-none g
+      go : (x y : Bool) → cond x (cond y (p || false) (p && true)) (differ p false) ≡ p
+      go true true = or-false p
+      go true false = and-true p
+      go false y = differ-false p
+
+  pub by-first : (g : ℕ → Bool) → g 0 ≡ byPins ty (listed g 1)
+  by-first g = sym (ap (byPins ty) (listed-more g 0 ∙ ap (λ xs. xs ++ (g 0 ∷ [])) (listed-none g)) ∙ by-single (g 0))
 
   pub by-more : (g : ℕ → Bool) (i : ℕ) → withPin ty (byPins ty (listed g i)) (g i) ≡ byPins ty (listed g (i + 1))
   unfolding byPins withPin
-  by-more g i = go (ltb ty 6)
+  by-more g i = go (ltb ty 6) (controls ty)
     where
-      go : (b : Bool)
-          → cond b (cond b (some (λ p. differ p (not (controls ty))) (listed g i)) (odd (listed g i)) || differ (g i) (not (controls ty))) (differ (cond b (some (λ p. differ p (not (controls ty))) (listed g i)) (odd (listed g i))) (g i))
-          ≡ cond b (some (λ p. differ p (not (controls ty))) (listed g (i + 1))) (odd (listed g (i + 1)))
-      go true = some-more (λ p. differ p (not (controls ty))) g i refl refl
-      go false = odd-more g i refl
+      so : Bool → Bool → ℕ → Bool
+      so x y k = cond x (cond y (some (λ p. p) (listed g k)) (every (λ p. p) (listed g k))) (odd (listed g k))
 
-  -- a gate of one pin, BUF or NOT, is AND or NAND of that pin
-  single : (ps : List Bool) → ty < 2 → length ps ≡ 1 → controlled (controls ty) (inverts ty) ps ≡ differ (getD ps 0 false) (inverts ty)
-  unfolding controlled controls
-  single [] h e = absurd (omega arith)
-  single (p ∷ q ∷ ps) h e = absurd (omega arith)
-  single (p ∷ []) h e = go ty h p
-    where
-      go : (ty : ℕ) → ty < 2 → (p : Bool) → controlled (controls ty) (inverts ty) (p ∷ []) ≡ differ p (inverts ty)
-      go zero h true = refl
-      go zero h false = refl
-      go (suc zero) h true = refl
-      go (suc zero) h false = refl
-      go (suc (suc ty)) h p = absurd (omega arith)
+      go : (x y : Bool) → cond x (cond y (so x y i || g i) (so x y i && g i)) (differ (so x y i) (g i)) ≡ so x y (i + 1)
+      go true true = some-more (λ p. p) g i refl refl
+      go true false = every-more g i
+      go false y = odd-more g i refl
 
   -- what a gate gives of what its pins come to is its function of them
   pub gate-by-pins : (ps : List Bool) → (ty < 2 → length ps ≡ 1) → ofPins ty (byPins ty ps) ≡ gate ty ps
-  unfolding byPins ofPins gate
-  gate-by-pins ps one = go (decLt ty 6) (decLt ty 2)
+  unfolding ofPins byPins controlled gate
+  gate-by-pins ps one = go (decLt ty 2) (decLt ty 6)
     where
-      by-control : ty < 6 → ofPins ty (byPins ty ps) ≡ controlled (controls ty) (inverts ty) ps
-      by-control l = rw (lt-ltb ty 6 l) (controlled-is (controls ty) (inverts ty) ps refl refl refl)
+      alone : (qs : List Bool) → length qs ≡ 1 → byPins ty qs ≡ getD qs 0 false
+      alone [] e = absurd (omega arith)
+      alone (p ∷ []) e = by-single p
+      alone (p ∷ q ∷ qs) e = absurd (omega arith)
 
-      go : Dec (ty < 6) → Dec (ty < 2) → ofPins ty (byPins ty ps) ≡ gate ty ps
-      go (no l) d = rw (le-ltb ty 2 (omega arith), le-ltb ty 6 (omega arith))
-      go (yes l) (yes h) = by-control l ∙ single ps h (one h) ∙ rw (lt-ltb ty 2 h)
-      go (yes l) (no h) = by-control l ∙ rw (le-ltb ty 2 (omega arith), lt-ltb ty 6 l)
+      by-control : (c : Bool) → cond (some (λ p. Bool·beq p c) ps) c (not c) ≡ cond c (some (λ p. p) ps) (every (λ p. p) ps)
+      by-control true = by-one ps
+      by-control false = by-zero ps
+
+      go : Dec (ty < 2) → Dec (ty < 6) → differ (byPins ty ps) (inverts ty) ≡ gate ty ps
+      go (yes h) d = ap (λ b. differ b (inverts ty)) (alone ps (one h)) ∙ rw (lt-ltb ty 2 h)
+      go (no h) (yes l) = rw (le-ltb ty 2 (omega arith), lt-ltb ty 6 l) (ap (λ b. differ b (inverts ty)) (sym (by-control (controls ty))))
+      go (no h) (no l) = rw (le-ltb ty 2 (omega arith), le-ltb ty 6 (omega arith))
 
   -- as the code goes through the types, with what it has of the table's row
-  pub pin-control : (known p : Bool) {m : Bool} → ty < 6 → m ≡ not (controls ty) → known || differ p m ≡ withPin ty known p
-  unfolding withPin
-  pin-control known p l e = rw (lt-ltb ty 6 l) (ap (λ m. known || differ p m) e)
-
-  pub pin-odd : (known p : Bool) → 6 ≤ ty → differ known p ≡ withPin ty known p
+  pub pin-odd : (known p : Bool) → 5 < ty → differ known p ≡ withPin ty known p
   unfolding withPin
   pin-odd known p l = rw (le-ltb ty 6 l)
 
-  pub of-control : (all : Bool) {m i : Bool} → ty < 6 → m ≡ not (controls ty) → i ≡ inverts ty → differ (differ all m) i ≡ ofPins ty all
-  unfolding ofPins
-  of-control all l e f = rw (lt-ltb ty 6 l) (ap₂ (λ m i. differ (differ all m) i) e f)
+  pub pin-some : (known p : Bool) → ty ≤ 5 → controls ty ≡ true → known || p ≡ withPin ty known p
+  unfolding withPin
+  pin-some known p l e = rw (lt-ltb ty 6 (omega arith), e)
 
-  pub of-odd : (all : Bool) {i : Bool} → 6 ≤ ty → i ≡ inverts ty → differ all i ≡ ofPins ty all
-  unfolding ofPins
-  of-odd all l f = rw (le-ltb ty 6 l) (ap (differ all) f)
+  pub pin-every : (known p : Bool) → ty ≤ 5 → controls ty ≡ false → known && p ≡ withPin ty known p
+  unfolding withPin
+  pin-every known p l e = rw (lt-ltb ty 6 (omega arith), e)

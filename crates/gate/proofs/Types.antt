@@ -7,23 +7,11 @@ use native.Mathlib.Omega.{arith}
 use Rattle.lists.specs.Entries.{some, every, sum}
 use Rattle.word.specs.Word.{differ, val}
 use Rattle.gate.specs.Gate.{controls, inverts, controlled, odd, gate}
-use Rattle.gate.proofs.Pins.{differ-false}
+use Rattle.gate.proofs.Pins.{differ-false, by-zero, by-one}
 
 differ-true : (a : Bool) → differ a true ≡ not a
 differ-true true = refl
 differ-true false = refl
-
--- some pin is 0, or every pin is 1
-by-zero : (ps : List Bool) → cond (some (λ p. Bool·beq p false) ps) false true ≡ every (λ p. p) ps
-by-zero [] = refl
-by-zero (true ∷ ps) = by-zero ps
-by-zero (false ∷ ps) = refl
-
--- some pin is 1, or none is
-by-one : (ps : List Bool) → cond (some (λ p. Bool·beq p true) ps) true false ≡ some (λ p. p) ps
-by-one [] = refl
-by-one (true ∷ ps) = refl
-by-one (false ∷ ps) = by-one ps
 
 pub buf-is : (p : Bool) → gate 0 (p ∷ []) ≡ p
 unfolding gate inverts

@@ -6,7 +6,7 @@ ghost use lib.ListN.{getD};
 ghost use Rattle.lists.specs.Entries.{some};
 ghost use Rattle.lists.specs.Listed.{listed};
 ghost use Rattle.word.specs.Word.{bit, differ, movedUp};
-ghost use Rattle.gate.specs.Pins.{Spread, withPin, ofPins};
+ghost use Rattle.gate.specs.Pins.{withPin};
 ghost use Rattle.gate.specs.Gate.{controls, inverts, controlled, odd, gate};
 
 pub struct Rule {
@@ -52,7 +52,7 @@ const RULES: [Rule; 8] = [
 ];
 
 // A gate type's row.
-fn rule_of(ty: usize) -> Rule
+pub fn rule_of(ty: usize) -> Rule
     requires { ⌜ ty < 8 ⌝ }
     ensures { λ r. ⌜ (r .controlling ≡ controls ty) × (r .inversion ≡ inverts ty) ⌝ }
 {
@@ -111,50 +111,23 @@ pub fn gate_bit(ty: usize, pins: &[bool; 8], n: usize) -> bool
     odd_of(pins, n) ^ rule.inversion
 }
 
-// A gate type's row at every time: the value that does not control, and the inversion.
-pub struct Row {
-    pub other: u64,
-    pub inversion: u64,
-}
-
-// A type's row.
-pub fn row_of(ty: usize) -> Row
-    requires { ⌜ ty < 8 ⌝ }
-    ensures { λ r. ⌜ Spread ty (r .other) (r .inversion) ⌝ }
+// Pin by pin, at every time: what the pins so far come to, with one more. One pin comes to its own word.
+pub fn with_pin(ty: usize, rule: Rule, known: u64, pin: u64) -> u64
+    requires { ⌜ rule .controlling ≡ controls ty ⌝ }
+    ensures { λ r. ⌜ ((t : ℕ) → bit r t ≡ withPin ty (bit known t) (bit pin t)) ⌝ }
 {
-    let rule = rule_of(ty);
-    Row {
-        other: word::spread(!rule.controlling),
-        inversion: word::spread(rule.inversion),
+    if 5 < ty {
+        return known ^ pin;
     }
-}
-
-// Pin by pin, at every time: what the pins so far come to, with one more. From none it is 0. The table is read once a gate, not once a pin.
-pub fn with_pin(ty: usize, row: Row, known: u64, pin: u64) -> u64
-    requires { ⌜ Spread ty (row .other) (row .inversion) ⌝ }
-    ensures { λ r. ⌜ ((t : ℕ) → t < 64 → bit r t ≡ withPin ty (bit known t) (bit pin t)) ⌝ }
-{
-    if ty < 6 {
-        return known | (pin ^ row.other);
+    if rule.controlling {
+        return known | pin;
     }
-    known ^ pin
-}
-
-// A gate's word of what all its pins come to.
-fn gate_word(ty: usize, row: Row, all: u64) -> u64
-    requires { ⌜ Spread ty (row .other) (row .inversion) ⌝ }
-    ensures { λ r. ⌜ ((t : ℕ) → t < 64 → bit r t ≡ ofPins ty (bit all t)) ⌝ }
-{
-    if ty < 6 {
-        return all ^ row.other ^ row.inversion;
-    }
-    all ^ row.inversion
+    known & pin
 }
 
 // A gate's field of what all its pins come to: its word, moved up by one, with the before value in bit 0.
-pub fn field(ty: usize, row: Row, all: u64, before: bool) -> u64
-    requires { ⌜ Spread ty (row .other) (row .inversion) ⌝ }
-    ensures { λ r. ⌜ ((t : ℕ) → t < 64 → bit r t ≡ movedUp before (λ u. ofPins ty (bit all u)) t) ⌝ }
+pub fn field(rule: Rule, all: u64, before: bool) -> u64
+    ensures { λ r. ⌜ ((t : ℕ) → t < 64 → bit r t ≡ movedUp before (λ u. differ (bit all u) (rule .inversion)) t) ⌝ }
 {
-    word::up(gate_word(ty, row, all), before)
+    word::up(all ^ word::spread(rule.inversion), before)
 }

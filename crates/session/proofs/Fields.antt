@@ -1,5 +1,5 @@
 -- Fields along an order of the gates: a gate's word of its pins' words, and one gate more. Assumes nothing.
-use mathlib.Core.Path.{_≡_, refl, sym, ap, _∙_}
+use mathlib.Core.Path.{_≡_, refl, sym, ap, ap₂, _∙_}
 use mathlib.Core.Bool.{Bool, false, not, cond}
 use mathlib.Core.List.{List, map}
 use Prim.Native.Nat.{ℕ, zero, suc, _+_, _^_, _*_, _≤_, _<_}
@@ -9,9 +9,9 @@ use lib.ListN.{length, getD, set, length-map}
 use borrow.Author.Tests.{eq-eqb, ne-eqb, eqb-true}
 use Rattle.lists.specs.Listed.{listed, upto}
 use Rattle.lists.proofs.Listed.{listed-none, length-listed, listed-at, out-listed, is-listed, map-listed}
-use Rattle.word.specs.Word.{bit, wordOf, movedUp}
+use Rattle.word.specs.Word.{bit, differ, wordOf, movedUp}
 use Rattle.word.proofs.Words.{is-word}
-use Rattle.gate.specs.Gate.{gate as gateFn}
+use Rattle.gate.specs.Gate.{inverts, gate as gateFn}
 use Rattle.gate.specs.Pins.{byPins, ofPins}
 use Rattle.gate.proofs.Pins.{gate-by-pins}
 use Rattle.rule.specs.Net.{openValue}
@@ -39,14 +39,14 @@ gathered words counts places g ty t known j e h =
     (ap (listed (pin words places g t)) e ∙ sym (ap (map (λ w. bit w t)) (map-listed (pinWord words) place count) ∙ map-listed (λ w. bit w t) (λ i. pinWord words (place i)) count))
 
 -- what a gate gives of what its pins come to, moved up by one, with the before value in bit 0, is its field
-pub field-made : (low : Bool) (ty all r : ℕ) (ws : List ℕ) → (ty < 2 → length ws ≡ 1) → ((t : ℕ) → t < 64 → bit all t ≡ byPins ty (map (λ w. bit w t) ws))
-    → r < 2 ^ 64 → ((t : ℕ) → t < 64 → bit r t ≡ movedUp low (λ u. ofPins ty (bit all u)) t) → r ≡ fieldOf low ty ws
-unfolding fieldOf
-field-made low ty all r ws one ha l h = is-word 64 (movedUp low (λ t. gateFn ty (map (λ w. bit w t) ws))) r l (λ t b. h t b ∙ at t b)
+pub field-made : (low i : Bool) (ty all r : ℕ) (ws : List ℕ) → (ty < 2 → length ws ≡ 1) → i ≡ inverts ty → ((t : ℕ) → bit all t ≡ byPins ty (map (λ w. bit w t) ws))
+    → r < 2 ^ 64 → ((t : ℕ) → t < 64 → bit r t ≡ movedUp low (λ u. differ (bit all u) i) t) → r ≡ fieldOf low ty ws
+unfolding fieldOf ofPins
+field-made low i ty all r ws one hi ha l h = is-word 64 (movedUp low (λ t. gateFn ty (map (λ w. bit w t) ws))) r l (λ t b. h t b ∙ at t b)
   where
-    at : (t : ℕ) → t < 64 → movedUp low (λ u. ofPins ty (bit all u)) t ≡ movedUp low (λ u. gateFn ty (map (λ w. bit w u) ws)) t
+    at : (t : ℕ) → t < 64 → movedUp low (λ u. differ (bit all u) i) t ≡ movedUp low (λ u. gateFn ty (map (λ w. bit w u) ws)) t
     at zero b = refl
-    at (suc u) b = ap (ofPins ty) (ha u (omega arith)) ∙ gate-by-pins ty (map (λ w. bit w u) ws) (λ k. length-map ws (λ w. bit w u) ∙ one k)
+    at (suc u) b = ap₂ differ (ha u) hi ∙ gate-by-pins ty (map (λ w. bit w u) ws) (λ k. length-map ws (λ w. bit w u) ∙ one k)
 
 -- A pass
 

@@ -7,7 +7,8 @@ ghost use lib.ListN.{length, getD};
 ghost use Rattle.lists.specs.Entries.{every};
 ghost use Rattle.lists.specs.Listed.{listed};
 ghost use Rattle.word.specs.Word.{bit, wordOf};
-ghost use Rattle.gate.specs.Pins.{Spread, byPins};
+ghost use Rattle.gate.specs.Gate.{controls};
+ghost use Rattle.gate.specs.Pins.{byPins};
 ghost use Rattle.rule.specs.Net.{openValue};
 ghost use Rattle.wiring.specs.Layout.{pinsAt};
 ghost use Rattle.wiring.specs.Wires.{Wires, Fitting};
@@ -105,27 +106,27 @@ pub fn open_word() -> u64
     word::spread(rule::open_value())
 }
 
-// What the pins of gate g, of type ty, come to by the words.
+// What the pins of gate g, of type ty, come to by the words, from its first pin's on.
 fn gather<'a>(
     words: &[u64; 256],
     counts: &'a [u8; 256],
     places: &'a [u16; 2048],
     n: usize,
     ty: usize,
-    row: gate::Row,
+    rule: gate::Rule,
     g: usize,
 ) -> u64
     requires { ⌜ Wires (now counts) (now places) n ⌝ }
     requires { ⌜ Fitting (now counts) (now places) n ⌝ }
-    requires { ⌜ (g < 256) × Spread ty (row .other) (row .inversion) ⌝ }
-    ensures { λ r. ⌜ ((t : ℕ) → t < 64 → bit r t ≡ byPins ty (map (λ w. bit w t) (map (pinWord (now (words .entry))) (pinsAt (now (counts .entry)) (now (places .entry)) g)))) ⌝ }
+    requires { ⌜ (g < 256) × (0 < getD (now counts) g 0) × (rule .controlling ≡ controls ty) ⌝ }
+    ensures { λ r. ⌜ ((t : ℕ) → bit r t ≡ byPins ty (map (λ w. bit w t) (map (pinWord (now (words .entry))) (pinsAt (now (counts .entry)) (now (places .entry)) g)))) ⌝ }
 {
     let count = wiring::wide(counts[g]);
     let open = open_word();
-    let mut known: u64 = 0;
-    let mut j: usize = 0;
+    let mut known = wiring::at_pin(words, places[g * 8], open);
+    let mut j: usize = 1;
     while j < count {
-        known = gate::with_pin(ty, row, known, wiring::at_pin(words, places[g * 8 + j], open));
+        known = gate::with_pin(ty, rule, known, wiring::at_pin(words, places[g * 8 + j], open));
         j += 1;
     }
     known
@@ -154,9 +155,9 @@ fn field_of<'a>(
     ensures { λ r. ⌜ r ≡ fieldOf (bit (getD (now (words .entry)) g 0) 63) (getD (now (types .entry)) g 0) (map (pinWord (now (words .entry))) (pinsAt (now (counts .entry)) (now (places .entry)) g)) ⌝ }
 {
     let ty = wiring::wide(types[g]);
-    let row = gate::row_of(ty);
-    let all = gather(words, counts, places, n, ty, row, g);
-    gate::field(ty, row, all, top(words[g]))
+    let rule = gate::rule_of(ty);
+    let all = gather(words, counts, places, n, ty, rule, g);
+    gate::field(rule, all, top(words[g]))
 }
 
 // The fields of the gates, along their order, from words that end in the before values.
