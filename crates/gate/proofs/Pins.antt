@@ -11,7 +11,7 @@ use borrow.Author.Tests.{lt-ltb, le-ltb}
 use Rattle.lists.specs.Entries.{some}
 use Rattle.lists.specs.Listed.{listed}
 use Rattle.lists.proofs.Tests.{some-ext, some-append}
-use Rattle.lists.proofs.Listed.{listed-none, listed-more, listed-at}
+use Rattle.lists.proofs.Listed.{listed-none, listed-more}
 use Rattle.word.specs.Word.{differ}
 use Rattle.gate.specs.Pins.{byPins, withPin, ofPins}
 use Rattle.gate.specs.Gate.{inverts, controls, controlled, odd, gate}
@@ -35,23 +35,23 @@ differ-false false = refl
 
 -- A loop over the pins: what it holds of none, and of one pin more
 
-pub some-none : (f : Bool → Bool) (g : ℕ → Bool) → false ≡ some f (listed g 0)
+some-none : (f : Bool → Bool) (g : ℕ → Bool) → false ≡ some f (listed g 0)
 some-none f g = sym (ap (some f) (listed-none g))
 
 some-one-more : (f : Bool → Bool) (g : ℕ → Bool) (i : ℕ) → some f (listed g (i + 1)) ≡ some f (listed g i) || f (g i)
 some-one-more f g i = ap (some f) (listed-more g i) ∙ some-append f (listed g i) (g i ∷ []) ∙ ap (λ b. some f (listed g i) || b) (or-false (f (g i)))
 
-pub some-more : (f : Bool → Bool) (g : ℕ → Bool) (i : ℕ) {a b : Bool} → a ≡ some f (listed g i) → b ≡ f (g i) → (a || b) ≡ some f (listed g (i + 1))
+some-more : (f : Bool → Bool) (g : ℕ → Bool) (i : ℕ) {a b : Bool} → a ≡ some f (listed g i) → b ≡ f (g i) → (a || b) ≡ some f (listed g (i + 1))
 some-more f g i e h = ap₂ _||_ e h ∙ sym (some-one-more f g i)
 
-pub odd-none : (g : ℕ → Bool) → false ≡ odd (listed g 0)
+odd-none : (g : ℕ → Bool) → false ≡ odd (listed g 0)
 odd-none g = sym (ap odd (listed-none g))
 
 odd-append : (ps : List Bool) (p : Bool) → odd (ps ++ (p ∷ [])) ≡ differ (odd ps) p
 odd-append [] p = differ-false p
 odd-append (q ∷ ps) p = ap (differ q) (odd-append ps p) ∙ differ-assoc q (odd ps) p
 
-pub odd-more : (g : ℕ → Bool) (i : ℕ) {a : Bool} → a ≡ odd (listed g i) → differ a (g i) ≡ odd (listed g (i + 1))
+odd-more : (g : ℕ → Bool) (i : ℕ) {a : Bool} → a ≡ odd (listed g i) → differ a (g i) ≡ odd (listed g (i + 1))
 odd-more g i e = ap (λ a. differ a (g i)) e ∙ sym (ap odd (listed-more g i) ∙ odd-append (listed g i) (g i))
 
 -- A controlling value: `some_differ(..) ^ m ^ i` with m the other value
@@ -68,26 +68,11 @@ form true i false = refl
 form false i true = refl
 form false i false = refl
 
-pub controlled-is : (c i : Bool) (ps : List Bool) {s m j : Bool} → s ≡ some (λ p. differ p m) ps → m ≡ not c → j ≡ i → differ (differ s m) j ≡ controlled c i ps
+controlled-is : (c i : Bool) (ps : List Bool) {s m j : Bool} → s ≡ some (λ p. differ p m) ps → m ≡ not c → j ≡ i → differ (differ s m) j ≡ controlled c i ps
 unfolding controlled
 controlled-is c i ps {s} {m} {j} hs hm hj =
     let other : some (λ p. differ p m) ps ≡ some (λ p. Bool·beq p c) ps = some-ext (λ p. differ p m) (λ p. Bool·beq p c) ps (λ p. ap (differ p) hm ∙ has-control c p) in
     ap₂ differ (ap₂ differ (hs ∙ other) hm) hj ∙ form c i (some (λ p. Bool·beq p c) ps)
-
--- A gate by its type, as the code goes through them, with what the code has of the table's row
-
-module _ (ty : ℕ) (g : ℕ → Bool) (n : ℕ) where
-  pub gate-one : {i : Bool} → ty < 2 → 0 < n → i ≡ inverts ty → differ (g 0) i ≡ gate ty (listed g n)
-  unfolding gate
-  gate-one h l e = rw (lt-ltb ty 2 h) (ap₂ differ (sym (listed-at g n 0 false l)) e)
-
-  pub gate-controlled : {c i : Bool} → 2 ≤ ty → ty < 6 → c ≡ controls ty → i ≡ inverts ty → controlled c i (listed g n) ≡ gate ty (listed g n)
-  unfolding gate
-  gate-controlled h l e f = rw (le-ltb ty 2 h, lt-ltb ty 6 l) (ap₂ (λ c i. controlled c i (listed g n)) e f)
-
-  pub gate-odd : {o i : Bool} → 6 ≤ ty → o ≡ odd (listed g n) → i ≡ inverts ty → differ o i ≡ gate ty (listed g n)
-  unfolding gate
-  gate-odd h e f = rw (le-ltb ty 2 (omega arith), le-ltb ty 6 h) (ap₂ differ e f)
 
 -- Pin by pin
 

@@ -1,13 +1,9 @@
-// What a gate gives of its pins: of one value each, and of one word each, in which bit t is the value at time t. The words are taken in pin by pin.
+// What a gate gives of its pins, taken in pin by pin: of one value each, and of one word each, in which bit t is the value at time t.
 ghost use mathlib.Core.Path.{_≡_};
-ghost use mathlib.Core.Bool.{false};
-ghost use Prim.Native.Nat.{ℕ, _<_, _≤_};
-ghost use lib.ListN.{getD};
-ghost use Rattle.lists.specs.Entries.{some};
-ghost use Rattle.lists.specs.Listed.{listed};
-ghost use Rattle.word.specs.Word.{bit, differ, movedUp};
+ghost use Prim.Native.Nat.{ℕ, _<_};
+ghost use Rattle.word.specs.Word.{bit, movedUp};
 ghost use Rattle.gate.specs.Pins.{Spread, withPin, ofPins};
-ghost use Rattle.gate.specs.Gate.{controls, inverts, controlled, odd, gate};
+ghost use Rattle.gate.specs.Gate.{controls, inverts};
 
 pub struct Rule {
     pub controlling: bool,
@@ -52,63 +48,33 @@ const RULES: [Rule; 8] = [
 ];
 
 // A gate type's row.
-fn rule_of(ty: usize) -> Rule
+pub fn rule_of(ty: usize) -> Rule
     requires { ⌜ ty < 8 ⌝ }
     ensures { λ r. ⌜ (r .controlling ≡ controls ty) × (r .inversion ≡ inverts ty) ⌝ }
 {
     RULES[ty]
 }
 
-// Whether some pin differs from m.
-fn some_differ(pins: &[bool; 8], n: usize, m: bool) -> bool
-    requires { ⌜ n ≤ 8 ⌝ }
-    ensures { λ r. ⌜ r ≡ some (λ p. differ p m) (listed (λ i. getD (now (pins .entry)) i false) n) ⌝ }
+// Pin by pin: what the pins so far come to, with one more. From none it is 0.
+pub fn with_bit(ty: usize, rule: Rule, known: bool, value: bool) -> bool
+    requires { ⌜ rule .controlling ≡ controls ty ⌝ }
+    ensures { λ r. ⌜ r ≡ withPin ty known value ⌝ }
 {
-    let mut acc = false;
-    let mut i: usize = 0;
-    while i < n {
-        acc |= pins[i] ^ m;
-        i += 1;
-    }
-    acc
-}
-
-// Whether an odd number of pins is 1.
-fn odd_of(pins: &[bool; 8], n: usize) -> bool
-    requires { ⌜ n ≤ 8 ⌝ }
-    ensures { λ r. ⌜ r ≡ odd (listed (λ i. getD (now (pins .entry)) i false) n) ⌝ }
-{
-    let mut acc = false;
-    let mut i: usize = 0;
-    while i < n {
-        acc ^= pins[i];
-        i += 1;
-    }
-    acc
-}
-
-// A gate with a controlling value: that value where some pin has it, else the other, inverted where the rule says so.
-fn controlled_bit(rule: Rule, pins: &[bool; 8], n: usize) -> bool
-    requires { ⌜ n ≤ 8 ⌝ }
-    ensures { λ r. ⌜ r ≡ controlled (rule .controlling) (rule .inversion) (listed (λ i. getD (now (pins .entry)) i false) n) ⌝ }
-{
-    let m = !rule.controlling;
-    some_differ(pins, n, m) ^ m ^ rule.inversion
-}
-
-// A gate's value of its pins' values.
-pub fn gate_bit(ty: usize, pins: &[bool; 8], n: usize) -> bool
-    requires { ⌜ (ty < 8) × (0 < n) × (n ≤ 8) ⌝ }
-    ensures { λ r. ⌜ r ≡ gate ty (listed (λ i. getD (now (pins .entry)) i false) n) ⌝ }
-{
-    let rule = rule_of(ty);
-    if ty < 2 {
-        return pins[0] ^ rule.inversion;
-    }
     if ty < 6 {
-        return controlled_bit(rule, pins, n);
+        return known | (value ^ !rule.controlling);
     }
-    odd_of(pins, n) ^ rule.inversion
+    known ^ value
+}
+
+// A gate's value of what all its pins come to.
+pub fn gate_bit(ty: usize, rule: Rule, all: bool) -> bool
+    requires { ⌜ (rule .controlling ≡ controls ty) × (rule .inversion ≡ inverts ty) ⌝ }
+    ensures { λ r. ⌜ r ≡ ofPins ty all ⌝ }
+{
+    if ty < 6 {
+        return all ^ !rule.controlling ^ rule.inversion;
+    }
+    all ^ rule.inversion
 }
 
 // A gate type's row at every time: the value that does not control, and the inversion.
@@ -129,7 +95,7 @@ pub fn row_of(ty: usize) -> Row
     }
 }
 
-// Pin by pin, at every time: what the pins so far come to, with one more. From none it is 0. The table is read once a gate, not once a pin.
+// One pin more, at every time. The table is read once a gate, not once a pin.
 pub fn with_pin(ty: usize, row: Row, known: u64, pin: u64) -> u64
     requires { ⌜ Spread ty (row .other) (row .inversion) ⌝ }
     ensures { λ r. ⌜ ((t : ℕ) → t < 64 → bit r t ≡ withPin ty (bit known t) (bit pin t)) ⌝ }

@@ -1,25 +1,24 @@
--- `steps::arguments` meets its contract. The loop's invariant: the first j values are what the first j pins read, the rest is false. The
--- measure is what is left of the pins. Assumes nothing.
-use mathlib.Core.Path.{_≡_}
-use mathlib.Core.Bool.{false}
-use Prim.Native.Nat.{ℕ, _+_, _-_, _*_, _≤_}
+-- `steps::gather` meets its contract. The loop's invariant: the value is what the first j pins come to. The measure is what is left of the pins.
+-- Assumes nothing.
+use mathlib.Core.Path.{_≡_, ap, ap₂, _∙_}
+use Prim.Native.Nat.{_+_, _-_, _*_, _≤_}
 use native.Mathlib.Omega.{arith}
 use lib.ListN.{getD}
 use borrow.Author.Needs.{needs}
-use Rattle.lists.specs.Listed.{listed, upto}
+use Rattle.lists.specs.Listed.{listed}
+use Rattle.gate.specs.Pins.{byPins, withPin}
+use Rattle.gate.proofs.Pins.{by-none, by-more}
 use Rattle.wiring.proofs.Pins.{pin-fitting}
-use Rattle.session.proofs.Fills.{fill-none, fill-more}
 use Rattle.steps.specs.Variables.{heldIn, readIn}
-use Rattle.steps.proofs.Pins.{gathered}
-use Rattle.steps.proofs.arguments.Statement.{statement}
-use Rattle.steps.proofs.arguments.Tie as tie
+use Rattle.steps.proofs.Pins.{pin, gathered}
+use Rattle.steps.proofs.gather.Statement.{statement}
+use Rattle.steps.proofs.gather.Tie as tie
 
 abbrev Inv-loop : tie.InvT-loop
-Inv-loop vars counts places sets n g t count loose out₀ j₀ out j =
-    (j ≤ count) × (count ≤ 8) × (out ≡ listed (upto (λ (i : ℕ). heldIn loose vars (readIn sets t (getD places (g * 8 + i) 0))) (λ (i : ℕ). false) j) 8)
+Inv-loop vars counts places sets n ty row g t count loose known₀ j₀ known j = (j ≤ count) × (count ≤ 8) × (known ≡ byPins ty (listed (pin vars places sets g t) j))
 
 abbrev μ-loop : tie.MeasureT-loop
-μ-loop vars counts places sets n g t count loose out₀ j₀ out j = count - j
+μ-loop vars counts places sets n ty row g t count loose known₀ j₀ known j = count - j
 
 element-copy-out-wide : tie.Need-element-copy-out-wide Inv-loop μ-loop
 element-copy-out-wide c = search needs
@@ -34,7 +33,7 @@ loop-holds : tie.Need-loop-holds Inv-loop μ-loop
 loop-holds c =
     let s = c .before .before .before in
     let e = c .before .wide .ensures in
-    (omega arith, omega (arith, s .pre .0 .narrow (s .args .g)), fill-none _ false 8)
+    (omega arith, omega (arith, s .pre .0 .narrow (s .args .g)), by-none (s .args .ty) _)
 
 mul-read-at : tie.Need-mul-read-at Inv-loop μ-loop
 mul-read-at c = search needs
@@ -54,8 +53,8 @@ read-at-requires c κs =
     let e = c .before .before .before .before .wide .ensures in
     (s .pre .1 .1 .1, pin-fitting (s .args .counts .now) (s .args .places .now) (s .args .n) (s .args .g) (c .before .before .loop .j) (s .pre .0) (s .pre .1 .0) (omega arith))
 
-array-write-out : tie.Need-array-write-out Inv-loop μ-loop
-array-write-out c = search needs
+with-bit-requires : tie.Need-with-bit-requires Inv-loop μ-loop
+with-bit-requires c κs = c .before .before .before .before .before .before .before .pre .1 .1 .2
 
 add-j : tie.Need-add-j Inv-loop μ-loop
 add-j c = search needs
@@ -65,18 +64,25 @@ loop-less c = search needs
 
 loop-again : tie.Need-loop-again Inv-loop μ-loop
 loop-again c =
-    let l = c .before .before .before .loop in
-    (omega arith, omega arith, fill-more _ false 8 (l .j) (l .out) (c .read-at .result) (omega arith) (l .inv .2) (c .read-at .ensures))
+    let s = c .before .before .before .before .before .before .before .before in
+    let a = s .args in
+    let l = c .before .before .before .before .loop in
+    let read = readIn (a .sets .now) (a .t) (getD (a .places .now) (a .g * 8 + l .j) 0) in
+    let value = c .before .read-at .ensures ∙ ap (λ loose. heldIn loose (a .vars .now) read) (c .before .before .before .before .before .open-value .ensures) in (
+      omega arith,
+      omega arith,
+      c .with-bit .ensures ∙ ap₂ (withPin (a .ty)) (l .inv .2) value ∙ by-more (a .ty) (pin (a .vars .now) (a .places .now) (a .sets .now) (a .g) (a .t)) (l .j),
+    )
 
 returns : tie.Need-returns Inv-loop μ-loop
 returns c =
-    let s = c .before .before .before .before .before in
+    let a = c .before .before .before .before .before .args in
     let w = c .before .before .before .wide .ensures in
     let l = c .before .loop in
-    gathered (c .before .before .open-value .result) (c .before .before .open-value .ensures) (s .args .vars .now) (s .args .counts .now) (s .args .places .now) (s .args .sets .now) (s .args .g) (s .args .t) (l .j) (l .out) (omega arith) (omega arith) (l .inv .2)
+    gathered (a .vars .now) (a .counts .now) (a .places .now) (a .sets .now) (a .g) (a .t) (a .ty) (l .j) (l .known) (omega arith) (l .inv .2)
 
-pub arguments-spec : {M : Type 1} → statement M
-arguments-spec =
+pub gather-spec : {M : Type 1} → statement M
+gather-spec =
     tie.close
     (tie.spec
     Inv-loop
@@ -90,7 +96,7 @@ arguments-spec =
     mul-read-at-2
     element-copy-out-read-at
     read-at-requires
-    array-write-out
+    with-bit-requires
     add-j
     loop-less
     loop-again
