@@ -1,8 +1,8 @@
--- Loops over a gate's pins, one more pin, and what the code makes of a controlling value. Over any number of pins. Assumes nothing.
+-- A gate's pins taken in one by one: what the first comes to, one pin more, and that the whole is the gate's function. Over any number of pins. Assumes nothing.
 use mathlib.Core.Path.{_≡_, refl, sym, ap, ap₂, _∙_}
 use mathlib.Core.Bool.{Bool, true, false, not, _||_, _&&_, cond, Bool·beq, or-false, and-true}
 use mathlib.Core.List.{List, [], _∷_, _++_}
-use Prim.Native.Nat.{ℕ, zero, suc, _+_, _≤_, _<_}
+use Prim.Native.Nat.{ℕ, _+_, _≤_, _<_}
 use native.Mathlib.Omega.{arith}
 use native.Mathlib.Decide.{decLt}
 use lib.Dec.{ltb}
@@ -10,8 +10,8 @@ use lib.ListN.{length, getD}
 use borrow.Author.Tests.{lt-ltb, le-ltb}
 use Rattle.lists.specs.Entries.{some, every}
 use Rattle.lists.specs.Listed.{listed}
-use Rattle.lists.proofs.Tests.{some-ext, some-append, every-append}
-use Rattle.lists.proofs.Listed.{listed-none, listed-more, listed-at}
+use Rattle.lists.proofs.Tests.{some-append, every-append}
+use Rattle.lists.proofs.Listed.{listed-none, listed-more}
 use Rattle.word.specs.Word.{differ}
 use Rattle.gate.specs.Pins.{byPins, withPin, ofPins}
 use Rattle.gate.specs.Gate.{inverts, controls, controlled, odd, gate}
@@ -33,61 +33,20 @@ pub differ-false : (a : Bool) → differ a false ≡ a
 differ-false true = refl
 differ-false false = refl
 
--- A loop over the pins: what it holds of none, and of one pin more
-
-pub some-none : (f : Bool → Bool) (g : ℕ → Bool) → false ≡ some f (listed g 0)
-some-none f g = sym (ap (some f) (listed-none g))
+-- A loop over the pins: one pin more
 
 some-one-more : (f : Bool → Bool) (g : ℕ → Bool) (i : ℕ) → some f (listed g (i + 1)) ≡ some f (listed g i) || f (g i)
 some-one-more f g i = ap (some f) (listed-more g i) ∙ some-append f (listed g i) (g i ∷ []) ∙ ap (λ b. some f (listed g i) || b) (or-false (f (g i)))
 
-pub some-more : (f : Bool → Bool) (g : ℕ → Bool) (i : ℕ) {a b : Bool} → a ≡ some f (listed g i) → b ≡ f (g i) → (a || b) ≡ some f (listed g (i + 1))
+some-more : (f : Bool → Bool) (g : ℕ → Bool) (i : ℕ) {a b : Bool} → a ≡ some f (listed g i) → b ≡ f (g i) → (a || b) ≡ some f (listed g (i + 1))
 some-more f g i e h = ap₂ _||_ e h ∙ sym (some-one-more f g i)
-
-pub odd-none : (g : ℕ → Bool) → false ≡ odd (listed g 0)
-odd-none g = sym (ap odd (listed-none g))
 
 odd-append : (ps : List Bool) (p : Bool) → odd (ps ++ (p ∷ [])) ≡ differ (odd ps) p
 odd-append [] p = differ-false p
 odd-append (q ∷ ps) p = ap (differ q) (odd-append ps p) ∙ differ-assoc q (odd ps) p
 
-pub odd-more : (g : ℕ → Bool) (i : ℕ) {a : Bool} → a ≡ odd (listed g i) → differ a (g i) ≡ odd (listed g (i + 1))
+odd-more : (g : ℕ → Bool) (i : ℕ) {a : Bool} → a ≡ odd (listed g i) → differ a (g i) ≡ odd (listed g (i + 1))
 odd-more g i e = ap (λ a. differ a (g i)) e ∙ sym (ap odd (listed-more g i) ∙ odd-append (listed g i) (g i))
-
--- A controlling value: `some_differ(..) ^ m ^ i` with m the other value
-
-has-control : (c p : Bool) → differ p (not c) ≡ Bool·beq p c
-has-control true true = refl
-has-control true false = refl
-has-control false true = refl
-has-control false false = refl
-
-form : (c i s : Bool) → differ (differ s (not c)) i ≡ differ (cond s c (not c)) i
-form true i true = refl
-form true i false = refl
-form false i true = refl
-form false i false = refl
-
-pub controlled-is : (c i : Bool) (ps : List Bool) {s m j : Bool} → s ≡ some (λ p. differ p m) ps → m ≡ not c → j ≡ i → differ (differ s m) j ≡ controlled c i ps
-unfolding controlled
-controlled-is c i ps {s} {m} {j} hs hm hj =
-    let other : some (λ p. differ p m) ps ≡ some (λ p. Bool·beq p c) ps = some-ext (λ p. differ p m) (λ p. Bool·beq p c) ps (λ p. ap (differ p) hm ∙ has-control c p) in
-    ap₂ differ (ap₂ differ (hs ∙ other) hm) hj ∙ form c i (some (λ p. Bool·beq p c) ps)
-
--- A gate by its type, as the code goes through them, with what the code has of the table's row
-
-module _ (ty : ℕ) (g : ℕ → Bool) (n : ℕ) where
-  pub gate-one : {i : Bool} → ty < 2 → 0 < n → i ≡ inverts ty → differ (g 0) i ≡ gate ty (listed g n)
-  unfolding gate
-  gate-one h l e = rw (lt-ltb ty 2 h) (ap₂ differ (sym (listed-at g n 0 false l)) e)
-
-  pub gate-controlled : {c i : Bool} → 2 ≤ ty → ty < 6 → c ≡ controls ty → i ≡ inverts ty → controlled c i (listed g n) ≡ gate ty (listed g n)
-  unfolding gate
-  gate-controlled h l e f = rw (le-ltb ty 2 h, lt-ltb ty 6 l) (ap₂ (λ c i. controlled c i (listed g n)) e f)
-
-  pub gate-odd : {o i : Bool} → 6 ≤ ty → o ≡ odd (listed g n) → i ≡ inverts ty → differ o i ≡ gate ty (listed g n)
-  unfolding gate
-  gate-odd h e f = rw (le-ltb ty 2 (omega arith), le-ltb ty 6 h) (ap₂ differ e f)
 
 -- Pin by pin
 

@@ -1,13 +1,9 @@
-// What a gate gives of its pins: of one value each, and of one word each, in which bit t is the value at time t. The words are taken in pin by pin.
+// What a gate gives of its pins, taken in pin by pin: of one value each, and of one word each, in which bit t is the value at time t.
 ghost use mathlib.Core.Path.{_≡_};
-ghost use mathlib.Core.Bool.{false};
-ghost use Prim.Native.Nat.{ℕ, _<_, _≤_};
-ghost use lib.ListN.{getD};
-ghost use Rattle.lists.specs.Entries.{some};
-ghost use Rattle.lists.specs.Listed.{listed};
+ghost use Prim.Native.Nat.{ℕ, _<_};
 ghost use Rattle.word.specs.Word.{bit, differ, movedUp};
 ghost use Rattle.gate.specs.Pins.{withPin};
-ghost use Rattle.gate.specs.Gate.{controls, inverts, controlled, odd, gate};
+ghost use Rattle.gate.specs.Gate.{controls, inverts};
 
 pub struct Rule {
     pub controlling: bool,
@@ -59,60 +55,22 @@ pub fn rule_of(ty: usize) -> Rule
     RULES[ty]
 }
 
-// Whether some pin differs from m.
-fn some_differ(pins: &[bool; 8], n: usize, m: bool) -> bool
-    requires { ⌜ n ≤ 8 ⌝ }
-    ensures { λ r. ⌜ r ≡ some (λ p. differ p m) (listed (λ i. getD (now (pins .entry)) i false) n) ⌝ }
+// Pin by pin: what the pins so far come to, with one more. One pin comes to its own value.
+pub fn with_bit(ty: usize, rule: Rule, known: bool, value: bool) -> bool
+    requires { ⌜ rule .controlling ≡ controls ty ⌝ }
+    ensures { λ r. ⌜ r ≡ withPin ty known value ⌝ }
 {
-    let mut acc = false;
-    let mut i: usize = 0;
-    while i < n {
-        acc |= pins[i] ^ m;
-        i += 1;
+    if 5 < ty {
+        return known ^ value;
     }
-    acc
+    if rule.controlling {
+        return known | value;
+    }
+    known & value
 }
 
-// Whether an odd number of pins is 1.
-fn odd_of(pins: &[bool; 8], n: usize) -> bool
-    requires { ⌜ n ≤ 8 ⌝ }
-    ensures { λ r. ⌜ r ≡ odd (listed (λ i. getD (now (pins .entry)) i false) n) ⌝ }
-{
-    let mut acc = false;
-    let mut i: usize = 0;
-    while i < n {
-        acc ^= pins[i];
-        i += 1;
-    }
-    acc
-}
-
-// A gate with a controlling value: that value where some pin has it, else the other, inverted where the rule says so.
-fn controlled_bit(rule: Rule, pins: &[bool; 8], n: usize) -> bool
-    requires { ⌜ n ≤ 8 ⌝ }
-    ensures { λ r. ⌜ r ≡ controlled (rule .controlling) (rule .inversion) (listed (λ i. getD (now (pins .entry)) i false) n) ⌝ }
-{
-    let m = !rule.controlling;
-    some_differ(pins, n, m) ^ m ^ rule.inversion
-}
-
-// A gate's value of its pins' values.
-pub fn gate_bit(ty: usize, pins: &[bool; 8], n: usize) -> bool
-    requires { ⌜ (ty < 8) × (0 < n) × (n ≤ 8) ⌝ }
-    ensures { λ r. ⌜ r ≡ gate ty (listed (λ i. getD (now (pins .entry)) i false) n) ⌝ }
-{
-    let rule = rule_of(ty);
-    if ty < 2 {
-        return pins[0] ^ rule.inversion;
-    }
-    if ty < 6 {
-        return controlled_bit(rule, pins, n);
-    }
-    odd_of(pins, n) ^ rule.inversion
-}
-
-// Pin by pin, at every time: what the pins so far come to, with one more. One pin comes to its own word.
-pub fn with_pin(ty: usize, rule: Rule, known: u64, pin: u64) -> u64
+// The same at every time.
+pub fn with_word(ty: usize, rule: Rule, known: u64, pin: u64) -> u64
     requires { ⌜ rule .controlling ≡ controls ty ⌝ }
     ensures { λ r. ⌜ ((t : ℕ) → bit r t ≡ withPin ty (bit known t) (bit pin t)) ⌝ }
 {
@@ -125,9 +83,23 @@ pub fn with_pin(ty: usize, rule: Rule, known: u64, pin: u64) -> u64
     known & pin
 }
 
+// A gate's value of what all its pins come to.
+pub fn gate_bit(rule: Rule, all: bool) -> bool
+    ensures { λ r. ⌜ r ≡ differ all (rule .inversion) ⌝ }
+{
+    all ^ rule.inversion
+}
+
+// The same at every time.
+fn gate_word(rule: Rule, all: u64) -> u64
+    ensures { λ r. ⌜ ((t : ℕ) → t < 64 → bit r t ≡ differ (bit all t) (rule .inversion)) ⌝ }
+{
+    all ^ word::spread(rule.inversion)
+}
+
 // A gate's field of what all its pins come to: its word, moved up by one, with the before value in bit 0.
 pub fn field(rule: Rule, all: u64, before: bool) -> u64
     ensures { λ r. ⌜ ((t : ℕ) → t < 64 → bit r t ≡ movedUp before (λ u. differ (bit all u) (rule .inversion)) t) ⌝ }
 {
-    word::up(all ^ word::spread(rule.inversion), before)
+    word::up(gate_word(rule, all), before)
 }

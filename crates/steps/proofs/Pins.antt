@@ -1,19 +1,23 @@
 -- What the pins of a gate read: an open one what an open pin has, another the variable of its largest element below the time. Assumes nothing.
-use mathlib.Core.Path.{_≡_, sym, ap, _∙_}
-use mathlib.Core.Bool.{Bool, false}
+use mathlib.Core.Path.{_≡_, sym, ap, ap₂, _∙_}
+use mathlib.Core.Bool.{Bool}
 use mathlib.Core.List.{List, map}
-use Prim.Native.Nat.{ℕ, zero, suc, _+_, _*_, _≤_, _<_}
+use Prim.Native.Nat.{ℕ, zero, suc, _+_, _*_, _<_}
 use native.Mathlib.Omega.{arith}
-use lib.ListN.{getD}
-use borrow.Author.Tests.{lt-ltb}
-use Rattle.lists.specs.Listed.{listed, upto}
-use Rattle.lists.proofs.Listed.{listed-at, listed-ext, map-listed}
-use Rattle.word.specs.Word.{bit}
+use lib.ListN.{length, getD, length-map}
+use Rattle.lists.specs.Listed.{listed}
+use Rattle.lists.proofs.Listed.{length-listed, map-listed}
+use Rattle.word.specs.Word.{bit, differ}
 use Rattle.word.specs.Times.{greatest, zeroIn}
 use Rattle.word.proofs.Sets.{greatest-cong, greatest-zero-any}
-use Rattle.rule.specs.Net.{openPin, openValue, atPin}
+use Rattle.gate.specs.Gate.{inverts, gate as gateFn}
+use Rattle.gate.specs.Pins.{byPins, ofPins}
+use Rattle.gate.proofs.Pins.{gate-by-pins}
+use Rattle.rule.specs.Net.{openPin, atPin}
 use Rattle.rule.proofs.Nets.{at-open, at-net}
-use Rattle.steps.specs.Variables.{heldIn, varsOf, readIn, readsIn}
+use Rattle.wiring.specs.Layout.{pinsAt}
+use Rattle.session.specs.Fields.{Gates}
+use Rattle.steps.specs.Variables.{heldIn, varsOf, readIn, readsIn, fnIn}
 
 -- the largest element below t of a set with 0 inserted, t being 1 or more
 pub largest-in : (f g : ℕ → Bool) (t u : ℕ) → 0 < t → ((i : ℕ) → f i ≡ zeroIn g i) → u ≡ greatest f t 64 → u ≡ greatest (zeroIn g) t 0
@@ -35,20 +39,28 @@ module _ (loose : Bool) (words sets : List ℕ) (t p : ℕ) where
       ∙ ap (λ x. bit (getD words p 0) (greatest (zeroIn (bit x)) t 0)) (sym (at-net 1 (λ k. getD sets k 0) p q))
       ∙ sym (at-net loose (λ k. bit (getD words k 0) (greatest (zeroIn (bit (atPin 1 (λ m. getD sets m 0) p))) t 0)) p q)
 
--- the pins' values stand at the front of the array that they are gathered in
-pub gathered : (loose : Bool) → loose ≡ openValue → (vars counts places sets : List ℕ) (g t j : ℕ) (out : List Bool) → j ≡ getD counts g 0 → j ≤ 8
-    → out ≡ listed (upto (λ i. heldIn loose vars (readIn sets t (getD places (g * 8 + i) 0))) (λ i. false) j) 8
-    → listed (λ i. getD out i false) (getD counts g 0) ≡ map (varsOf vars) (readsIn counts places sets (record { net = g; time = t }))
-gathered loose o vars counts places sets g t j out e l h =
-    rw (← e)
-    (listed-ext (λ i. getD out i false) value j at
-    ∙ sym (ap (map (varsOf vars)) (map-listed (readIn sets t) (λ i. getD places (g * 8 + i) 0) j) ∙ map-listed (varsOf vars) (λ i. readIn sets t (getD places (g * 8 + i) 0)) j))
-  where
-    value : ℕ → Bool
-    value i = varsOf vars (readIn sets t (getD places (g * 8 + i) 0))
+-- what the i-th pin of a gate reads; what the pins come to, pin by pin
+abbrev pub pin : List ℕ → List ℕ → List ℕ → ℕ → ℕ → ℕ → Bool
+pin vars places sets g t i = varsOf vars (readIn sets t (getD places (g * 8 + i) 0))
 
-    at : (i : ℕ) → i < j → getD out i false ≡ value i
-    at i b =
-        ap (λ xs. getD xs i false) h
-        ∙ listed-at (upto (λ i. heldIn loose vars (readIn sets t (getD places (g * 8 + i) 0))) (λ i. false) j) 8 i false (omega arith)
-        ∙ rw (lt-ltb i j b) (ap (λ x. heldIn x vars (readIn sets t (getD places (g * 8 + i) 0))) o)
+module _ (vars counts places sets : List ℕ) (g t : ℕ) where
+  abbrev values : List Bool
+  values = map (varsOf vars) (readsIn counts places sets (record { net = g; time = t }))
+
+  pub gathered : (ty j : ℕ) (known : Bool) → j ≡ getD counts g 0 → known ≡ byPins ty (listed (pin vars places sets g t) j) → known ≡ byPins ty values
+  gathered ty j known e h =
+      let place : ℕ → ℕ = λ i. getD places (g * 8 + i) 0 in
+      let count = getD counts g 0 in
+      h ∙ ap (byPins ty)
+      (ap (listed (pin vars places sets g t)) e ∙ sym (ap (map (varsOf vars)) (map-listed (readIn sets t) place count) ∙ map-listed (varsOf vars) (λ i. readIn sets t (place i)) count))
+
+  -- what a gate gives of what its pins come to is its function of what they read
+  pub value-made : (types : List ℕ) (ty : ℕ) (i all b : Bool) → Gates types counts g → ty ≡ getD types g 0 → i ≡ inverts ty → all ≡ byPins ty values → b ≡ differ all i
+      → b ≡ fnIn types (record { net = g; time = t }) values
+  unfolding ofPins
+  value-made types ty i all b are e hi ha hb = hb ∙ ap₂ differ ha hi ∙ gate-by-pins ty values single ∙ ap (λ k. gateFn k values) e
+    where
+      single : ty < 2 → length values ≡ 1
+      single l =
+          length-map (readsIn counts places sets (record { net = g; time = t })) (varsOf vars) ∙ length-map (pinsAt counts places g) (readIn sets t)
+          ∙ length-listed _ (getD counts g 0) ∙ are .single (omega (arith, e, l))

@@ -5,7 +5,8 @@ ghost use mathlib.Core.List.{List, _++_, map};
 ghost use mathlib.Core.Logic.{_⊎_};
 ghost use Prim.Native.Nat.{ℕ, _+_, _<_, _≤_};
 ghost use lib.ListN.{length, getD};
-ghost use Rattle.lists.specs.Listed.{listed};
+ghost use Rattle.gate.specs.Gate.{controls};
+ghost use Rattle.gate.specs.Pins.{byPins};
 ghost use Rattle.rule.specs.Net.{openPin};
 ghost use Rattle.rule.specs.Steps.{Step, stepList};
 ghost use Rattle.wiring.specs.Wires.{Wires, Fitting};
@@ -40,30 +41,37 @@ pub fn read_at<'a>(words: &[u64; 256], sets: &'a [u64; 256], p: u16, t: u32, loo
     held.has(set.with_zero().largest_below(t))
 }
 
-// What the pins of gate g read at time t.
-fn arguments<'a>(
+// What the pins of gate g, of type ty, come to by what they read at time t, from its first pin's on.
+fn gather<'a>(
     vars: &[u64; 256],
     counts: &'a [u8; 256],
     places: &'a [u16; 2048],
     sets: &'a [u64; 256],
     n: usize,
+    ty: usize,
+    rule: gate::Rule,
     g: usize,
     t: u32,
-) -> [bool; 8]
+) -> bool
     requires { ⌜ Wires (now counts) (now places) n ⌝ }
     requires { ⌜ Fitting (now counts) (now places) n ⌝ }
-    requires { ⌜ (g < 256) × (0 < t) ⌝ }
-    ensures { λ r. ⌜ listed (λ (i : ℕ). getD r i false) (getD (now (counts .entry)) g 0) ≡ map (varsOf (now (vars .entry))) (readsIn (now (counts .entry)) (now (places .entry)) (now (sets .entry)) (record { net = g; time = t })) ⌝ }
+    requires { ⌜ (g < 256) × (0 < t) × (0 < getD (now counts) g 0) × (rule .controlling ≡ controls ty) ⌝ }
+    ensures { λ r. ⌜ r ≡ byPins ty (map (varsOf (now (vars .entry))) (readsIn (now (counts .entry)) (now (places .entry)) (now (sets .entry)) (record { net = g; time = t }))) ⌝ }
 {
     let count = wiring::wide(counts[g]);
     let loose = rule::open_value();
-    let mut out = [false; 8];
-    let mut j: usize = 0;
+    let mut known = read_at(vars, sets, places[g * 8], t, loose);
+    let mut j: usize = 1;
     while j < count {
-        out[j] = read_at(vars, sets, places[g * 8 + j], t, loose);
+        known = gate::with_bit(
+            ty,
+            rule,
+            known,
+            read_at(vars, sets, places[g * 8 + j], t, loose),
+        );
         j += 1;
     }
-    out
+    known
 }
 
 // One step, gate g at time t: whatever the variables hold, its gate's function of those it reads goes into its own variable.
@@ -83,8 +91,10 @@ pub fn step<'a>(
     requires { ⌜ (0 < t) × (t < 64) × Words (now vars) ⌝ }
     ensures { λ r. ⌜ now (vars .exit) ≡ stepIn (now (types .entry)) (now (counts .entry)) (now (places .entry)) (now (sets .entry)) (now (vars .entry)) (record { net = g; time = t }) ⌝ }
 {
-    let args = arguments(vars, counts, places, sets, n, g, t);
-    let b = gate::gate_bit(wiring::wide(types[g]), &args, wiring::wide(counts[g]));
+    let ty = wiring::wide(types[g]);
+    let rule = gate::rule_of(ty);
+    let all = gather(vars, counts, places, sets, n, ty, rule, g, t);
+    let b = gate::gate_bit(rule, all);
     vars[g] = word::put(vars[g], t, b);
 }
 

@@ -75,8 +75,8 @@ at-pin-requires-2 c κs =
     let e = c .before .before .before .before .before .before .wide .ensures in
     pin-fitting (s .args .counts .now) (s .args .places .now) (s .args .n) (s .args .g) (c .before .before .loop .j) (s .pre .0) (s .pre .1 .0) (omega arith)
 
-with-pin-requires : tie.Need-with-pin-requires Inv-loop μ-loop
-with-pin-requires c κs = c .before .before .before .before .before .before .before .before .before .pre .1 .1 .2
+with-word-requires : tie.Need-with-word-requires Inv-loop μ-loop
+with-word-requires c κs = c .before .before .before .before .before .before .before .before .before .pre .1 .1 .2
 
 add-j : tie.Need-add-j Inv-loop μ-loop
 add-j c = search needs
@@ -92,7 +92,7 @@ loop-again c =
     let word = c .before .at-pin2 .ensures ∙ ap (λ loose. atPin loose (λ m. getD (a .words .now) m 0) p) (c .before .before .before .before .before .before .before .open-word .ensures) in (
       omega arith,
       omega arith,
-      λ t. c .with-pin .ensures t ∙ ap₂ (withPin (a .ty)) (l .inv .2 t) (ap (λ w. bit w t) word) ∙ by-more (a .ty) (pin (a .words .now) (a .places .now) (a .g) t) (l .j),
+      λ t. c .with-word .ensures t ∙ ap₂ (withPin (a .ty)) (l .inv .2 t) (ap (λ w. bit w t) word) ∙ by-more (a .ty) (pin (a .words .now) (a .places .now) (a .g) t) (l .j),
     )
 
 returns : tie.Need-returns Inv-loop μ-loop
@@ -121,7 +121,7 @@ gather-spec =
     mul-at-pin-4
     element-copy-out-at-pin-2
     at-pin-requires-2
-    with-pin-requires
+    with-word-requires
     add-j
     loop-less
     loop-again

@@ -1,17 +1,10 @@
 -- `steps::step` meets its contract. Assumes nothing.
-use mathlib.Core.Path.{ap, _∙_}
 use native.Mathlib.Omega.{arith}
-use lib.ListN.{getD}
-use Rattle.gate.specs.Gate.{gate as gateFn}
-use Rattle.lists.specs.Listed.{listed}
-use mathlib.Core.Bool.{false}
+use Rattle.steps.proofs.Pins.{value-made}
 use Rattle.steps.proofs.Stores.{step-made}
 use borrow.Author.Needs.{needs}
 use Rattle.steps.proofs.step.Statement.{statement}
 use Rattle.steps.proofs.step.Tie as tie
-
-arguments-requires : tie.Need-arguments-requires
-arguments-requires c κs = search needs
 
 element-copy-out-wide : tie.Need-element-copy-out-wide
 element-copy-out-wide c = search needs
@@ -19,18 +12,14 @@ element-copy-out-wide c = search needs
 wide-requires : tie.Need-wide-requires
 wide-requires c κs = search needs
 
-element-copy-out-wide-2 : tie.Need-element-copy-out-wide-2
-element-copy-out-wide-2 c = search needs
+rule-of-requires : tie.Need-rule-of-requires
+rule-of-requires c κs = omega (arith, c .wide .ensures, c .before .before .pre .1 .1 .0 .type)
 
-wide-requires-2 : tie.Need-wide-requires-2
-wide-requires-2 c κs = search needs
+gather-requires : tie.Need-gather-requires
+gather-requires c κs = let s = c .before .before .before .before in (s .pre .0, (s .pre .1 .0, (s .pre .1 .1 .0 .net, s .pre .1 .1 .1 .0, s .pre .1 .1 .0 .pinned, c .before .rule-of .ensures .0)))
 
 gate-bit-requires : tie.Need-gate-bit-requires
-gate-bit-requires c κs =
-    let s = c .before .before .before .before .before .before .before in
-    let a = c .before .before .before .wide .ensures in
-    let b = c .wide2 .ensures in
-    (omega arith, omega arith, omega (arith, s .pre .0 .narrow (s .args .g)))
+gate-bit-requires c κs = search needs
 
 mul-put : tie.Need-mul-put
 mul-put c = search needs
@@ -49,27 +38,25 @@ element-write-vars c = search needs
 
 returns : tie.Need-returns
 returns c =
-    let s = c .before .before .before .before .before .before .before .before .before .before in
-    let a = c .before .before .before .before .before .before .before .before .arguments in
+    let s = c .before .before .before .before .before .before .before .before in
+    let a = s .args in
     let ty = c .before .before .before .before .before .before .wide in
-    let n = c .before .before .before .wide2 in
-    step-made (s .args .types .now) (s .args .counts .now) (s .args .places .now) (s .args .sets .now) (s .args .vars .now) (s .args .g) (s .args .t)
-    (c .put .result) (c .before .before .gate-bit .result) (s .pre .1 .1 .0 .net) (s .pre .1 .1 .1 .2)
-    (c .before .before .gate-bit .ensures
-    ∙ ap (λ k. gateFn k (listed (λ i. getD (a .result) i false) (n .result))) (ty .ensures)
-    ∙ ap (λ m. gateFn (getD (s .args .types .now) (s .args .g) 0) (listed (λ i. getD (a .result) i false) m)) (n .ensures)
-    ∙ ap (gateFn (getD (s .args .types .now) (s .args .g) 0)) (a .ensures))
+    let rule = c .before .before .before .before .before .rule-of in
+    let all = c .before .before .before .gather in
+    let b = c .before .before .gate-bit in
+    step-made (a .types .now) (a .counts .now) (a .places .now) (a .sets .now) (a .vars .now) (a .g) (a .t)
+    (c .put .result) (b .result) (s .pre .1 .1 .0 .net) (s .pre .1 .1 .1 .2)
+    (value-made (a .vars .now) (a .counts .now) (a .places .now) (a .sets .now) (a .g) (a .t) (a .types .now) (ty .result) (rule .result .inversion) (all .result) (b .result) (s .pre .1 .1 .0) (ty .ensures) (rule .ensures .1) (all .ensures) (b .ensures))
     (omega (arith, c .put .ok)) (c .put .ensures)
 
 pub step-spec : {M : Type 1} → statement M
 step-spec =
     tie.close
     (tie.spec
-    arguments-requires
     element-copy-out-wide
     wide-requires
-    element-copy-out-wide-2
-    wide-requires-2
+    rule-of-requires
+    gather-requires
     gate-bit-requires
     mul-put
     element-copy-out-put
