@@ -11,7 +11,7 @@ use Rattle.word.specs.Word.{bit, val}
 use Rattle.rule.specs.Net.{Net}
 use Rattle.rule.specs.Rule.{value, Rest}
 use Rattle.rule.specs.Steps.{Joined, GoodOrder, stepList}
-use Rattle.rule.specs.Numbers.{numberOf}
+use Rattle.rule.specs.Numbers.{numberOf, answerNumber, answerCount}
 use Rattle.rule.specs.declared.Refusal.{Refusal}
 use Rattle.rule.specs.declared.Refusal.the-variants.{OrderLength, OrderEntry, OrderEarly}
 use Rattle.rule.specs.declared.Answer.the-variants.{Done, Refused}
@@ -23,7 +23,7 @@ use Rattle.card.specs.Session.{none, cardOf}
 use Rattle.card.specs.Load.{refusal, loadOf}
 use Rattle.card.specs.Allowed.{Allowed, Gets}
 use Rattle.card.specs.Held.{HasCard}
-use Rattle.card.proofs.Kept.{card-fits}
+use Rattle.card.proofs.Kept.{nets-are, card-fits}
 use Rattle.card.proofs.Verdicts.{taken, load-takes, load-taken, load-refuses, load-refused}
 use Rattle.session.specs.Good.{Good}
 use Rattle.session.specs.Inputs.{given, givenTo}
@@ -33,8 +33,12 @@ use Rattle.session.specs.Sequence.{after, stateAfter}
 use Rattle.session.proofs.Kept.{none-good, load-good, rest-good, vector-good}
 use Rattle.session.proofs.Held.{given-card}
 use Rattle.session.proofs.Refusals.{vector-fits, vector-takes}
-use Rattle.session.proofs.Rules.{vector-rule}
-use Rattle.session.proofs.Sequences.{sequence-rule}
+use Rattle.session.proofs.Rules.{rest-settles, rest-flat, vector-rule}
+use Rattle.session.proofs.Sequences.{Stands, sequence-rule, sequence-stands}
+use Rattle.rule.specs.Flag.{flagOf}
+use Rattle.history.specs.Told.{historyOf}
+use Rattle.history.proofs.Flags.{flag-cong}
+use Rattle.history.proofs.Histories.{Roomy, history-0, history-count, history-shows}
 use Rattle.steps.specs.Listing.{stepAt}
 use Rattle.steps.specs.Vector.{ranAlong, stepsVectorOf}
 use Rattle.steps.proofs.Engines.{AnyOrder, run-any-order, steps-number, engines-equal}
@@ -104,6 +108,17 @@ demand-2-accepts old b h = record {
 pub demand-2-engines : (s : Session) → Good s → (v : List ℕ) → vectorBy steps s v .session ≡ vectorBy fields s v .session
 demand-2-engines s g v = engines-equal s g v
 
+-- "a rest vector comes first. It puts every net at its settled value: each gate equals its function of its own pins. After a rest the history is flat and equals the before values."
+pub demand-2-rest : (s : Session) → Good s → s .loaded ≡ true → (u : List ℕ) → Vector (s .inputs) u
+    → let left = restOf s u .session in
+    Rest (cardOf s) (givenTo (cardOf s) u) (λ n. getD (left .before) n false) × ((n time : ℕ) → n < s .nets → time < 64 → bit (getD (left .words) n 0) time ≡ getD (left .before) n false)
+demand-2-rest s g l u fits =
+    let h = g .card l in
+    let few = card-fits s h .fits .few in (
+      subst (λ new. Rest (cardOf s) new (λ n. getD (restOf s u .session .before) n false)) (λ i n. given-card s h u n i) (rest-settles s g l u fits),
+      λ n time b q. rest-flat s g l u fits n time (omega (arith, nets-are s h)) q,
+    )
+
 -- vectors by engines in any mixture leave what the same vectors by fields leave
 abbrev pub vectors : List Turn → List (List ℕ)
 vectors ts = map (λ t. t .given) ts
@@ -130,6 +145,32 @@ demand-2-values s g l u fits start r ts all t last n b =
     let same = mixed (ts ++ (t ∷ [])) (restOf s u .session) (rest-good s g u) ∙ ap (after (restOf s u .session)) (vectors-more ts t) in
     let rule = sequence-rule s g l u fits start r (vectors ts) all (t .given) last n b in
     (λ time q. ap (λ x. bit (getD (x .words) n 0) time) same ∙ rule .0 time q, ap (λ x. getD (x .before) n false) same ∙ rule .1)
+
+-- and what a history hands out then is the rule's: "word, before value (the one from ahead of that word's time 0), flag"
+pub demand-2-history : (s : Session) → Good s → s .loaded ≡ true → (u : List ℕ) → Vector (s .inputs) u → (start : ℕ → Bool) → Rest (cardOf s) (givenTo (cardOf s) u) start
+    → (ts : List Turn) → ((v : List ℕ) → v ∈ vectors ts → Vector (s .inputs) v) → (t : Turn) → Vector (s .inputs) (t .given)
+    → (words befores flags : List ℕ) → s .nets ≤ length words → s .nets ≤ length befores → s .nets ≤ length flags
+    → let shown = historyOf (afterBy (restOf s u .session) (ts ++ (t ∷ []))) words befores flags in
+    let before = stateAfter (cardOf s) start (vectors ts) in
+    let ruled = value (cardOf s) before (givenTo (cardOf s) (t .given)) in
+    (answerNumber (shown .answer) ≡ 0) × (answerCount (shown .answer) ≡ s .nets)
+    × ((n : ℕ) → n < s .nets
+    → ((time : ℕ) → time < 64 → bit (getD (shown .words) n 0) time ≡ ruled n time) × (getD (shown .befores) n 0 ≡ val (before n)) × (getD (shown .flags) n 0 ≡ flagOf (before n) (ruled n)))
+demand-2-history s g l u fits start r ts all t last words befores flags lw lb lf =
+    let left = afterBy (restOf s u .session) (ts ++ (t ∷ [])) in
+    let same : left ≡ after (restOf s u .session) (vectors ts ++ (t .given ∷ [])) =
+        mixed (ts ++ (t ∷ [])) (restOf s u .session) (rest-good s g u) ∙ ap (after (restOf s u .session)) (vectors-more ts t) in
+    let stands = subst (Stands (cardOf s) (s .inputs) _) (sym same) (sequence-stands s g l u fits start r (vectors ts) all (t .given) last) in
+    let nets : left .nets ≡ s .nets = nets-are left (stands .good .card (stands .good .rest (stands .rested) .0)) ∙ ap length (stands .same-card) ∙ sym (nets-are s (g .card l)) in
+    let roomy : Roomy left words befores flags = record { for-words = omega (arith, nets, lw); for-befores = omega (arith, nets, lb); for-flags = omega (arith, nets, lf) } in
+    let ok = history-0 left words befores flags .1 (stands .rested, roomy) in (
+      ok,
+      history-count left words befores flags ok ∙ nets,
+      λ n b.
+          let shows = history-shows left (stands .good) (stands .rested) words befores flags ok n (omega (arith, nets, b)) in
+          let rule = demand-2-values s g l u fits start r ts all t last n b in
+          (λ time q. ap (λ w. bit w time) (shows .0) ∙ rule .0 time q, shows .1 ∙ ap val (rule .1), shows .2 ∙ flag-cong _ _ _ _ (rule .1) (rule .0)),
+    )
 
 -- Demand 3. "On any rested card, with any vector that isn't refused, in any order that has each step once and no step before one whose value it reads, each
 -- step gives its proper value when it is reached, and the whole run ends with the rule's history and state."

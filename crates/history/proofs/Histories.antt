@@ -173,19 +173,25 @@ module _ (s : Session) (g : Good s) (rested : s .rested ≡ true) (words befores
   listed-net : (n : ℕ) → n < s .nets → n < 256
   listed-net n l = omega (arith, few s (holds s g rested))
 
+  -- what the slices have of the session
+  pub history-shows : (n : ℕ) → n < s .nets
+      → (getD (heard s words befores flags .words) n 0 ≡ wordAt s n) × (getD (heard s words befores flags .befores) n 0 ≡ val (beforeAt s n)) × (getD (heard s words befores flags .flags) n 0 ≡ flagAt s n)
+  history-shows n l =
+      let left = wrote s words befores flags ok in (
+        ap (λ x. getD (x .words) n 0) left ∙ fill-at (wordAt s) words (s .nets) n l (room .for-words),
+        ap (λ x. getD (x .befores) n 0) left ∙ fill-at (λ m. val (beforeAt s m)) befores (s .nets) n l (room .for-befores),
+        ap (λ x. getD (x .flags) n 0) left ∙ fill-at (flagAt s) flags (s .nets) n l (room .for-flags),
+      )
+
   pub history-word : (n t : ℕ) → n < s .nets → t < 64 → bit (getD (heard s words befores flags .words) n 0) t ≡ ruleValue s run n t
-  history-word n t l b =
-      ap (λ x. bit (getD (x .words) n 0) t) (wrote s words befores flags ok) ∙ ap (λ w. bit w t) (fill-at (wordAt s) words (s .nets) n l (room .for-words))
-      ∙ value-is s (holds s g rested) run n t (listed-net n l) b
+  history-word n t l b = ap (λ w. bit w t) (history-shows n l .0) ∙ value-is s (holds s g rested) run n t (listed-net n l) b
 
   pub history-before : (n : ℕ) → n < s .nets → getD (heard s words befores flags .befores) n 0 ≡ val (run .old n)
-  history-before n l =
-      ap (λ x. getD (x .befores) n 0) (wrote s words befores flags ok) ∙ fill-at (λ m. val (beforeAt s m)) befores (s .nets) n l (room .for-befores)
-      ∙ ap val (before-is s (holds s g rested) run n (listed-net n l))
+  history-before n l = history-shows n l .1 ∙ ap val (before-is s (holds s g rested) run n (listed-net n l))
 
   pub history-flag : (n : ℕ) → n < s .nets → getD (heard s words befores flags .flags) n 0 ≡ flagOf (run .old n) (ruleValue s run n)
   history-flag n l =
-      ap (λ x. getD (x .flags) n 0) (wrote s words befores flags ok) ∙ fill-at (flagAt s) flags (s .nets) n l (room .for-flags)
+      history-shows n l .2
       ∙ flag-cong (beforeAt s n) (run .old n) (bit (wordAt s n)) (ruleValue s run n) (before-is s (holds s g rested) run n (listed-net n l))
       (λ t b. value-is s (holds s g rested) run n t (listed-net n l) b)
 

@@ -28,13 +28,14 @@ use Rattle.session.specs.Inputs.{given, vectorFits}
 use Rattle.session.specs.Moves.{refusedMove, moving, movedBy, vectorOf, restedBy, restOf}
 use Rattle.session.proofs.Refusals.{Ruling, refuses, takes, rest-ruled, vector-ruled}
 use Rattle.history.specs.Told.{Told, historyOf}
+use Rattle.history.proofs.Histories.{history-refused}
 use Rattle.steps.specs.Variables.{Ran}
 use Rattle.steps.specs.Vector.{ranAlong, ranSession, stepsVectorOf}
 use Rattle.steps.proofs.Engines.{run-count, engines-equal}
 use Rattle.host.specs.declared.Move.{Move}
 use Rattle.host.specs.declared.Move.the-variants.{Load, Rest, Vector, Steps}
 use Rattle.host.specs.Made.{madeAgain}
-use Rattle.host.specs.Calls.{packed, operated, Hosted, leftBy, hostMove, hostHistory}
+use Rattle.host.specs.Calls.{packed, operated, Hosted, Shown, leftBy, hostMove, hostHistory}
 use Rattle.host.specs.Following.{Holding, Call, bytesAfter, sessionAfter, hostAnswers, libraryAnswers}
 use Rattle.host.proofs.Places.{clear-make}
 use Rattle.host.proofs.Making.{again-good}
@@ -63,6 +64,33 @@ refused-kept how b v n = go (ltb (length b) 5895) (madeAgain b .whole) (operated
     go false false a n = refl
     go false true (Refused why) n = refl
     go false true (Done count) n = absurd (n (omega arith))
+
+-- and a refused history leaves the three slices
+pub history-kept : (b words befores flags : List ℕ) → ¬ (hostHistory b words befores flags .answer % 256 ≡ 0)
+    → (hostHistory b words befores flags .words ≡ words) × (hostHistory b words befores flags .befores ≡ befores) × (hostHistory b words befores flags .flags ≡ flags)
+unfolding hostHistory packed
+history-kept b words befores flags bad = go (ltb (length b) 5895) (madeAgain b .whole) (historyOf (madeAgain b .session) words befores flags) refl bad
+  where
+    kept : Answer → Shown
+    kept a = record { answer = packed a; words = words; befores = befores; flags = flags }
+
+    shows : Told → Shown
+    shows h = record { answer = packed (h .answer); words = h .words; befores = h .befores; flags = h .flags }
+
+    refused : (h : Told) → historyOf (madeAgain b .session) words befores flags ≡ h → (a : Answer) → h .answer ≡ a → ¬ (packed a % 256 ≡ 0) → (h .words ≡ words) × (h .befores ≡ befores) × (h .flags ≡ flags)
+    refused h q (Refused why) e x =
+        let same = sym q ∙ history-refused (madeAgain b .session) words befores flags why (ap (λ k. k .answer) q ∙ e) in
+        (ap (λ k. k .words) same, ap (λ k. k .befores) same, ap (λ k. k .flags) same)
+    refused h q (Done count) e x = absurd (x (omega arith))
+
+    go : (x y : Bool) (h : Told) → historyOf (madeAgain b .session) words befores flags ≡ h
+        → ¬ (cond x (kept (Refused NoRoom)) (cond y (shows h) (kept (Refused NotReady))) .answer % 256 ≡ 0)
+        → (cond x (kept (Refused NoRoom)) (cond y (shows h) (kept (Refused NotReady))) .words ≡ words)
+        × (cond x (kept (Refused NoRoom)) (cond y (shows h) (kept (Refused NotReady))) .befores ≡ befores)
+        × (cond x (kept (Refused NoRoom)) (cond y (shows h) (kept (Refused NotReady))) .flags ≡ flags)
+    go true y h q n = (refl, refl, refl)
+    go false false h q n = (refl, refl, refl)
+    go false true h q n = refused h q (h .answer) refl n
 
 -- One call
 

@@ -120,6 +120,10 @@ module _ (s : Session) (g : Good s) (loaded : s .loaded ≡ true) (u : List ℕ)
       pub sequence-taken : vectorOf (after (restOf s u .session) vs) v .answer ≡ Done 0
       sequence-taken = ap (λ x. x .answer) (taken (after-stands rest-stands vs all) v last)
 
+      -- and leaves the same card, rested
+      pub sequence-stands : Stands c (s .inputs) (λ n. value c (stateAfter c start vs) (givenTo c v) n 63) (after (restOf s u .session) (vs ++ (v ∷ [])))
+      sequence-stands = subst (Stands c (s .inputs) (λ n. value c (stateAfter c start vs) (givenTo c v) n 63)) (sym (after-more (restOf s u .session) vs v)) (vector-stands (after-stands rest-stands vs all) v last)
+
       -- whatever settled state the rest is, the history is the rule's for the last vector, from what the earlier ones left of that state
       pub sequence-rule : (n : ℕ) → n < s .nets
           → ((t : ℕ) → t < 64 → bit (getD (after (restOf s u .session) (vs ++ (v ∷ [])) .words) n 0) t ≡ value c (stateAfter c start vs) (givenTo c v) n t)

@@ -81,10 +81,20 @@ exampleMoved = vectorOf exampleRested (1 ∷ 1 ∷ 0 ∷ []) .session
 pub example-vector : vectorOf exampleRested (1 ∷ 1 ∷ 0 ∷ []) ≡ record { answer = Done 0; session = movedBy exampleRested (given (exampleRested .kinds) (1 ∷ 1 ∷ 0 ∷ [])) }
 example-vector = vector-takes exampleRested (1 ∷ 1 ∷ 0 ∷ []) (card-rested .0) (bits-below _ _ (sym (card-rested .1)) refl)
 
+-- the predicate is met by the session that a real card leaves: loaded, at rest, and after a vector
+
+pub loaded-good : Good exampleLoaded × (exampleLoaded .loaded ≡ true) × (exampleLoaded .gates ≡ 2)
+unfolding exampleLoaded
+loaded-good = (load-good none exampleBytes none-good (bytes-below exampleBytes refl), card-loaded .0, card-loaded .2)
+
+pub rested-good : Good exampleRested × (exampleRested .rested ≡ true) × (exampleRested .gates ≡ 2)
+unfolding exampleRested
+rested-good = (rest-good exampleLoaded (loaded-good .0) (0 ∷ 1 ∷ 1 ∷ []), card-rested .0, card-rested .2)
+
 pub witness : Good exampleMoved × (exampleMoved .rested ≡ true) × (exampleMoved .gates ≡ 2)
-unfolding exampleLoaded exampleRested exampleMoved movedBy
+unfolding exampleMoved movedBy
 witness = (
-  vector-good exampleRested (rest-good exampleLoaded (load-good none exampleBytes none-good (bytes-below exampleBytes refl)) (0 ∷ 1 ∷ 1 ∷ [])) (1 ∷ 1 ∷ 0 ∷ []),
+  vector-good exampleRested (rested-good .0) (1 ∷ 1 ∷ 0 ∷ []),
   ap (λ x. x .session .rested) example-vector ∙ card-rested .0,
   ap (λ x. x .session .gates) example-vector ∙ card-rested .2,
 )

@@ -10,3 +10,4 @@ pub mod Vectors
 pub mod Starts
 pub mod Words
 pub mod Engines
+pub mod Refusals

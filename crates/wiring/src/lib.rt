@@ -142,7 +142,7 @@ fn sweep<'a>(
 // Whether two arrays are the same.
 fn same(a: &[u64; 256], b: &[u64; 256]) -> bool
     requires { ⌜ (length (now a) ≡ 256) × (length (now b) ≡ 256) ⌝ }
-    ensures { λ r. ⌜ (r ≡ true → now (a .entry) ≡ now (b .entry)) ⌝ }
+    ensures { λ r. ⌜ (r ≡ true → now (a .entry) ≡ now (b .entry)) × (now (a .entry) ≡ now (b .entry) → r ≡ true) ⌝ }
 {
     let mut i: usize = 0;
     while i < 256 {

@@ -31,7 +31,7 @@ returns : tie.Need-returns Inv-loop μ-loop
 returns c =
     let s = c .before .before .before .before .before .before .before .before in
     let l = c .before .before .before .before .before .before .before .loop in
-    let same = c .before .same .ensures (c .if1 .taken) ∙ c .before .before .before .before .sweep .ensures in
+    let same = c .before .same .ensures .0 (c .if1 .taken) ∙ c .before .before .before .before .sweep .ensures in
     l .inv .1 ∙ sweeps-end (s .args .counts .now) (s .args .places .now) (s .args .n) (s .pre .0) (l .k) (s .args .n + 1) (sym (l .inv .1) ∙ same) (l .inv .0)
 
 add-k : tie.Need-add-k Inv-loop μ-loop

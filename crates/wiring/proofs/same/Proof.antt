@@ -1,5 +1,5 @@
 -- `wiring::same` meets its contract. The loop's invariant: the first i entries agree. The measure is what is left of 256. Assumes nothing.
-use mathlib.Core.Path.{_≡_, sym, _∙_}
+use mathlib.Core.Path.{_≡_, refl, sym, ap, _∙_}
 use mathlib.Core.Bool.{false≢true}
 use Prim.Native.Nat.{ℕ, _-_, _≤_, _<_}
 use native.Mathlib.Omega.{arith}
@@ -32,7 +32,7 @@ element-copy-out-if1-2 : tie.Need-element-copy-out-if1-2 Inv-loop μ-loop
 element-copy-out-if1-2 c = search needs
 
 returns : tie.Need-returns Inv-loop μ-loop
-returns c = λ e. absurd (false≢true e)
+returns c = (λ e. absurd (false≢true e), λ e. absurd (c .if1 .taken (ap (λ xs. getD xs (c .before .before .before .before .loop .i) 0) e)))
 
 add-i : tie.Need-add-i Inv-loop μ-loop
 add-i c = search needs
@@ -44,7 +44,8 @@ loop-again : tie.Need-loop-again Inv-loop μ-loop
 loop-again c = let l = c .before .before .before .before .loop in (omega arith, below-more _ (l .i) (l .inv .1) (c .if1 .left))
 
 returns-2 : tie.Need-returns-2 Inv-loop μ-loop
-returns-2 c = λ e. let s = c .before .before in ext-getD 0 (s .args .a .now) (s .args .b .now) (s .pre .0 ∙ sym (s .pre .1)) (λ k l. c .before .loop .inv .1 k (omega (arith, s .pre .0)))
+returns-2 c =
+    (λ e. let s = c .before .before in ext-getD 0 (s .args .a .now) (s .args .b .now) (s .pre .0 ∙ sym (s .pre .1)) (λ k l. c .before .loop .inv .1 k (omega (arith, s .pre .0))), λ e. refl)
 
 pub same-spec : {M : Type 1} → statement M
 same-spec =
