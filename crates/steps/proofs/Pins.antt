@@ -20,7 +20,7 @@ use Rattle.session.specs.Fields.{Gates}
 use Rattle.steps.specs.Variables.{heldIn, varsOf, readIn, readsIn, fnIn}
 
 -- the largest element below t of a set with 0 inserted, t being 1 or more
-pub largest-in : (f g : ℕ → Bool) (t u : ℕ) → 0 < t → ((i : ℕ) → f i ≡ zeroIn g i) → u ≡ greatest f t 64 → u ≡ greatest (zeroIn g) t 0
+largest-in : (f g : ℕ → Bool) (t u : ℕ) → 0 < t → ((i : ℕ) → f i ≡ zeroIn g i) → u ≡ greatest f t 64 → u ≡ greatest (zeroIn g) t 0
 largest-in f g zero u l h e = absurd (omega arith)
 largest-in f g (suc t) u l h e = e ∙ greatest-cong f (zeroIn g) (suc t) 64 (λ i b. h i) ∙ greatest-zero-any g t 64
 

@@ -280,20 +280,20 @@ pub fn run_list<'a>(
     done
 }
 
-// A net's history from its variables: at each time the variable of the largest element not above it, or of 0.
+// A net's history from its variables: at each time the variable of the largest element not above it, or of 0. What is known is filled upwards, first from
+// the elements to the times next to them, then twice as far with each turn.
 pub fn history_from(vars: u64, set: u64) -> u64
     ensures { λ r. ⌜ r ≡ historyOf set vars ⌝ }
 {
-    let s = PcSet { word: set };
-    let with_zero = s.with_zero();
-    let held = PcSet { word: vars };
-    let mut w: u64 = 0;
-    let mut t: u32 = 0;
-    while t < 64 {
-        w = word::put(w, t, held.has(with_zero.largest_below(t + 1)));
-        t += 1;
+    let mut known = set | 1;
+    let mut v = vars & known;
+    let mut s: u32 = 1;
+    while s < 64 {
+        v |= (v << s) & !known;
+        known |= known << s;
+        s += s;
     }
-    w
+    v
 }
 
 // The histories of all nets from their variables.
