@@ -159,7 +159,7 @@ pub demand-2-history : (s : Session) → Good s → s .loaded ≡ true → (u : 
 demand-2-history s g l u fits start r ts all t last words befores flags lw lb lf =
     let left = afterBy (restOf s u .session) (ts ++ (t ∷ [])) in
     let same : left ≡ after (restOf s u .session) (vectors ts ++ (t .given ∷ [])) =
-        mixed (ts ++ (t ∷ [])) (restOf s u .session) (rest-good s g u) ∙ ap (after (restOf s u .session)) (vectors-more ts t) in
+    mixed (ts ++ (t ∷ [])) (restOf s u .session) (rest-good s g u) ∙ ap (after (restOf s u .session)) (vectors-more ts t) in
     let stands = subst (Stands (cardOf s) (s .inputs) _) (sym same) (sequence-stands s g l u fits start r (vectors ts) all (t .given) last) in
     let nets : left .nets ≡ s .nets = nets-are left (stands .good .card (stands .good .rest (stands .rested) .0)) ∙ ap length (stands .same-card) ∙ sym (nets-are s (g .card l)) in
     let roomy : Roomy left words befores flags = record { for-words = omega (arith, nets, lw); for-befores = omega (arith, nets, lb); for-flags = omega (arith, nets, lf) } in

@@ -177,9 +177,9 @@ module _ (b : List ℕ) (s : Session) (h : Holding b s) (vs room : List ℕ) (ok
       let call : Call = record { how = ByFields; given = v } in
       let b′ = keptEach b vs n k in
       let kept : hostMove ByFields b′ v .bytes ≡ keptVector b′ v =
-          ap (λ x. x .bytes) (move-is b′ z (so-far .0) v bytes ByFields) ∙ ap (λ a. leftBy ByFields a b′ v .bytes) done in
+      ap (λ x. x .bytes) (move-is b′ z (so-far .0) v bytes ByFields) ∙ ap (λ a. leftBy ByFields a b′ v .bytes) done in
       let last : bytesAfter b (eachVector vs n (suc k)) ≡ bytesAfter (bytesAfter b (eachVector vs n k)) (call ∷ []) =
-          ap (λ j. bytesAfter b (eachVector vs n j)) (sym e) ∙ ap (bytesAfter b) (listed-more (λ j. record { how = ByFields; given = part vs (j * n) n }) k) ∙ bytes-append b (eachVector vs n k) (call ∷ []) in (
+      ap (λ j. bytesAfter b (eachVector vs n j)) (sym e) ∙ ap (bytesAfter b) (listed-more (λ j. record { how = ByFields; given = part vs (j * n) n }) k) ∙ bytes-append b (eachVector vs n k) (call ∷ []) in (
         subst (λ x. Holding x (vectorOf z v .session)) kept (move-follows ByFields b′ v z (so-far .0) bytes .0),
         last ∙ ap (λ x. hostMove ByFields x v .bytes) (so-far .1) ∙ kept,
       )
@@ -193,7 +193,7 @@ many-follow b vs room s h ok k e =
     let few = le-div-iff-mul-le (inputs-some s card .0) .0 (le-of-eq (asks .2)) in
     let each = each-holds b s h vs room ok (asks .0) (asks .1) k few in
     let call : hostVectors b vs room ≡ manyDone s b vs room (Done k) =
-        sym (vectors-done b vs room (h .room) (ap (λ m. m .whole) (h .made))) ∙ ap (λ m. manyDone (m .session) b vs room (manyJudged (m .session) vs (length room))) (h .made) ∙ ap (manyDone s b vs room) e in
+    sym (vectors-done b vs room (h .room) (ap (λ m. m .whole) (h .made))) ∙ ap (λ m. manyDone (m .session) b vs room (manyJudged (m .session) vs (length room))) (h .made) ∙ ap (manyDone s b vs room) e in
     let left : hostVectors b vs room .bytes ≡ keptEach b vs (s .inputs) k = ap (λ x. x .bytes) call ∙ sym (each-many b vs (s .inputs) k (h .room)) in
     (left ∙ sym (each .1), subst (λ x. Holding x (manyRun s vs (s .inputs) k room .session)) (sym left) (each .0))
 

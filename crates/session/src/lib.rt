@@ -126,7 +126,12 @@ fn gather<'a>(
     let mut known = wiring::at_pin(words, places[g * 8], open);
     let mut j: usize = 1;
     while j < count {
-        known = gate::with_word(ty, rule, known, wiring::at_pin(words, places[g * 8 + j], open));
+        known = gate::with_word(
+            ty,
+            rule,
+            known,
+            wiring::at_pin(words, places[g * 8 + j], open),
+        );
         j += 1;
     }
     known

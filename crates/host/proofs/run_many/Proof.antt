@@ -110,10 +110,10 @@ loop-again c =
     let room = a .args .room .now in
     let order = listed (λ k. getD (s .order) k 0) (s .gates) in
     let next =
-        c .before .before .before .before .before .advance .ensures
-        ∙ ap (advanced (s .kinds) (s .types) (s .counts) (s .places) order (l .words)) (bytes-are i)
-        ∙ ap (λ ws. advanced (s .kinds) (s .types) (s .counts) (s .places) order ws (part vs (l .done * s .inputs) (s .inputs))) (l .inv .3)
-        ∙ next-words s (a .pre .0) (a .pre .1 .0 .0) vs room (a .pre .1 .0 .1) (l .done) (bytes-fit i) in
+    c .before .before .before .before .before .advance .ensures
+    ∙ ap (advanced (s .kinds) (s .types) (s .counts) (s .places) order (l .words)) (bytes-are i)
+    ∙ ap (λ ws. advanced (s .kinds) (s .types) (s .counts) (s .places) order ws (part vs (l .done * s .inputs) (s .inputs))) (l .inv .3)
+    ∙ next-words s (a .pre .0) (a .pre .1 .0 .0) vs room (a .pre .1 .0 .1) (l .done) (bytes-fit i) in
     let more = many-more s vs (s .inputs) (l .done) room in (
       omega (arith, i .loop-test .taken),
       ap (λ x. x + s .inputs) (l .inv .1) ∙ turn-next (l .done) (s .inputs),

@@ -48,7 +48,7 @@ returns c =
     let pins = pinsAt (a .counts .now) (a .places .now) (a .g) in
     let words = map (pinWord (a .words .now)) pins in
     let single : c .before .before .before .before .before .wide .result < 2 → length words ≡ 1 =
-        λ l. length-map pins (pinWord (a .words .now)) ∙ length-listed _ (getD (a .counts .now) (a .g) 0) ∙ s .pre .1 .1 .single (omega (arith, ty, l)) in
+    λ l. length-map pins (pinWord (a .words .now)) ∙ length-listed _ (getD (a .counts .now) (a .g) 0) ∙ s .pre .1 .1 .single (omega (arith, ty, l)) in
     field-made (c .before .top .result) (rule .result .inversion) (c .before .before .before .before .before .wide .result) (c .before .before .before .gather .result) (c .field .result) words single (rule .ensures .1)
     (c .before .before .before .gather .ensures) (omega (arith, c .field .ok)) (c .field .ensures)
     ∙ ap₂ (λ low k. fieldOf low k words) (c .before .top .ensures) ty

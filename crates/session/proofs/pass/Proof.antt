@@ -66,7 +66,7 @@ loop-again c =
     let g = c .before .before .wide16 .result in
     let e = c .before .before .wide16 .ensures in
     let own = own-top (topsOf (a .words .now)) (a .types .now) (a .counts .now) (a .places .now) (a .words .now) f (l .i) _ _ (gated (c .before .before) .net)
-        (λ j b q. s .pre .1 .1 .1 .0 j (l .i) b t (q ∙ e)) (l .inv .1) in (
+    (λ j b q. s .pre .1 .1 .1 .0 j (l .i) b t (q ∙ e)) (l .inv .1) in (
       omega arith,
       passed-more (topsOf (a .words .now)) (a .types .now) (a .counts .now) (a .places .now) (a .words .now) (a .n) (s .pre .0 .few) (s .pre .1 .0) f (l .i) (λ j h. s .pre .1 .1 .0 .1 j (omega arith) .net) _ _ _ e (l .inv .1)
           (c .field-of .ensures ∙ ap (λ low. fieldOf low (getD (a .types .now) g 0) (map (pinWord (l .words)) (pinsAt (a .counts .now) (a .places .now) g))) own),

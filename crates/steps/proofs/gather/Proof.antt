@@ -58,8 +58,8 @@ loop-holds c =
     let e = c .before .before .before .wide .ensures in
     let first : a .g * 8 ≡ a .g * 8 + 0 = omega arith in
     let value =
-        c .read-at .ensures
-        ∙ ap₂ (λ loose k. heldIn loose (a .vars .now) (readIn (a .sets .now) (a .t) (getD (a .places .now) k 0))) (c .before .before .open-value .ensures) first in
+    c .read-at .ensures
+    ∙ ap₂ (λ loose k. heldIn loose (a .vars .now) (readIn (a .sets .now) (a .t) (getD (a .places .now) k 0))) (c .before .before .open-value .ensures) first in
     (omega (arith, e, s .pre .1 .1 .2), omega (arith, s .pre .0 .narrow (a .g)), value ∙ by-first (a .ty) (pin (a .vars .now) (a .places .now) (a .sets .now) (a .g) (a .t)))
 
 mul-read-at-3 : tie.Need-mul-read-at-3 Inv-loop μ-loop
