@@ -28,6 +28,16 @@ use Rattle.bench.proofs.bench as bench-fn
 use Rattle.sheet_text.specs.declared.Sheet.{Sheet}
 use Rattle.sheet_text.specs.Pieces.{Standing, pieceOf, Written, written}
 use Rattle.sheet_text.proofs.next as next-fn
+use Rattle.host.specs.declared.Move.{Move}
+use Rattle.host.specs.declared.Move.the-variants.{Load, Rest, Vector, Steps}
+use Rattle.host.specs.Calls.{Hosted, hostMove, Shown, hostHistory}
+use Rattle.host.specs.Many.{Shown as ManyShown, hostVectors}
+use Rattle.host.proofs.krasvome_load as host-load-fn
+use Rattle.host.proofs.krasvome_rest as host-rest-fn
+use Rattle.host.proofs.krasvome_vector as host-vector-fn
+use Rattle.host.proofs.krasvome_steps as host-steps-fn
+use Rattle.host.proofs.krasvome_history as host-history-fn
+use Rattle.host.proofs.krasvome_vectors as host-vectors-fn
 use Rattle.demands.specs.Operations.{fields, steps, Operation, load, rest, vector, history, list, records, ask, trace, bench, Result, Allowed, handed, outcome}
 
 -- what the contract of a sheet's next piece allows
@@ -82,6 +92,27 @@ module _ {M : Type 1} (𝓤 : URA M) (H : Heap 𝓤) (A : Atoms 𝓤) (mem : Mem
       PieceAllowed (a .0) (a .1 .0 .now) (a .1 .1 .0 .now) (record { piece = r; page = e .1 .1 .0 .now }) × Standing (r .sheet) × (r .length ≤ 20480))
   next-promises κs a g r e = refl
 
+  -- the host's calls: number and count, the session's bytes, and what else is lent
+  pub host-load-promises : Promises host-load-fn.ended (host-load-fn.clauses 𝓤 H A mem run) (λ κs a r e. record { answer = r; bytes = e .0 .now } ≡ hostMove Load (a .0 .now) (a .1 .0 .now))
+  host-load-promises κs a g r e = refl
+
+  pub host-rest-promises : Promises host-rest-fn.ended (host-rest-fn.clauses 𝓤 H A mem run) (λ κs a r e. record { answer = r; bytes = e .0 .now } ≡ hostMove Rest (a .0 .now) (a .1 .0 .now))
+  host-rest-promises κs a g r e = refl
+
+  pub host-vector-promises : Promises host-vector-fn.ended (host-vector-fn.clauses 𝓤 H A mem run) (λ κs a r e. record { answer = r; bytes = e .0 .now } ≡ hostMove Vector (a .0 .now) (a .1 .0 .now))
+  host-vector-promises κs a g r e = refl
+
+  pub host-steps-promises : Promises host-steps-fn.ended (host-steps-fn.clauses 𝓤 H A mem run) (λ κs a r e. record { answer = r; bytes = e .0 .now } ≡ hostMove Steps (a .0 .now) (a .1 .0 .now))
+  host-steps-promises κs a g r e = refl
+
+  pub host-history-promises : Promises host-history-fn.ended (host-history-fn.clauses 𝓤 H A mem run) (λ κs a r e.
+      record { answer = r; words = e .1 .0 .now; befores = e .1 .1 .0 .now; flags = e .1 .1 .1 .0 .now } ≡ hostHistory (a .0 .now) (a .1 .0 .now) (a .1 .1 .0 .now) (a .1 .1 .1 .0 .now))
+  host-history-promises κs a g r e = refl
+
+  pub host-vectors-promises : Promises host-vectors-fn.ended (host-vectors-fn.clauses 𝓤 H A mem run) (λ κs a r e.
+      record { answer = r; bytes = e .0 .now; words = e .1 .1 .0 .now } ≡ hostVectors (a .0 .now) (a .1 .0 .now) (a .1 .1 .0 .now))
+  host-vectors-promises κs a g r e = refl
+
 -- two results that the contract allows for the same session and input are equal: answer, session and lent memory
 pub results-equal : (s : Session) (o : Operation) (r r′ : Result o) → Allowed s o r → Allowed s o r′ → r ≡ r′
 results-equal s o r r′ e e′ = e ∙ sym e′
@@ -93,3 +124,13 @@ result-handed s o r e = ap (handed s o) e
 -- the same of a sheet's next piece: text, sheet and lent page
 pub pieces-equal : (sheet : Sheet) (file page : List ℕ) (r r′ : Written) → PieceAllowed sheet file page r → PieceAllowed sheet file page r′ → r ≡ r′
 pieces-equal sheet file page r r′ e e′ = e ∙ sym e′
+
+-- and of the host's calls: number, count, the session's bytes and what else is lent
+pub calls-equal : (how : Move) (b v : List ℕ) (r r′ : Hosted) → r ≡ hostMove how b v → r′ ≡ hostMove how b v → r ≡ r′
+calls-equal how b v r r′ e e′ = e ∙ sym e′
+
+pub shown-equal : (b words befores flags : List ℕ) (r r′ : Shown) → r ≡ hostHistory b words befores flags → r′ ≡ hostHistory b words befores flags → r ≡ r′
+shown-equal b words befores flags r r′ e e′ = e ∙ sym e′
+
+pub many-equal : (b vs room : List ℕ) (r r′ : ManyShown) → r ≡ hostVectors b vs room → r′ ≡ hostVectors b vs room → r ≡ r′
+many-equal b vs room r r′ e e′ = e ∙ sym e′
