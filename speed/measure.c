@@ -1,5 +1,6 @@
 /* Times of the engines on one card, as the mean of many vectors: the library's field engine inside the call that runs many vectors, the same algorithm by hand, and
- * the event-driven simulator, with a given part of the inputs changing. One line: nets, gates, depth, steps, inputs, percent, and nanoseconds a vector of each.
+ * the event-driven simulator, with a given part of the inputs changing. One line: nets, gates, depth, steps, inputs, percent, and nanoseconds a vector of each;
+ * then those of a call for one vector, by fields and by steps, each of which makes the session again from its bytes.
  *
  *     measure SHAPE SIZE PERCENT        SHAPE: largest, ladder, random
  *     measure SHAPE SIZE PERCENT show   the card and the vectors in hex instead, a line each */
@@ -15,7 +16,7 @@
 #include <string.h>
 #include <time.h>
 
-enum { VECTORS = 2000 };
+enum { VECTORS = 2000, CALLS = 100 };
 
 static double now(void)
 {
@@ -76,8 +77,8 @@ int main(int argc, char **argv)
     }
     uint8_t rest[SIM_NETS] = {0};
     hand_load(&h, &s);
-    double fields = 1e30, hand = 1e30, events = 1e30;
-    for (int turn = 0; turn < 5; turn++) {
+    double fields = 1e30, hand = 1e30, events = 1e30, call = 1e30, steps = 1e30;
+    for (int turn = 0; turn < 20; turn++) {
         memset(session, 0, sizeof session);
         krasvome_load(session, sizeof session, bytes, length);
         krasvome_rest(session, sizeof session, rest, n);
@@ -86,6 +87,18 @@ int main(int argc, char **argv)
             return 1;
         t = (now() - t) / VECTORS;
         fields = t < fields ? t : fields;
+        t = now();
+        for (size_t k = 0; k < CALLS; k++)
+            if (krasvome_vector(session, sizeof session, vectors + k * n, n))
+                return 1;
+        t = (now() - t) / CALLS;
+        call = t < call ? t : call;
+        t = now();
+        for (size_t k = 0; k < CALLS; k++)
+            if (krasvome_steps(session, sizeof session, vectors + k * n, n) != (uint64_t)s.pairs << 8)
+                return 1;
+        t = (now() - t) / CALLS;
+        steps = t < steps ? t : steps;
         hand_rest(&h, &s, rest);
         t = now();
         for (size_t k = 0; k < VECTORS; k++) {
@@ -103,6 +116,6 @@ int main(int argc, char **argv)
         t = (now() - t) / VECTORS;
         events = t < events ? t : events;
     }
-    printf("%d %d %d %d %d %u %.0f %.0f %.0f\n", s.nets, h.gates, s.depth, s.pairs, s.inputs, percent, fields, hand, events);
+    printf("%d %d %d %d %d %u %.0f %.0f %.0f %.0f %.0f\n", s.nets, h.gates, s.depth, s.pairs, s.inputs, percent, fields, hand, events, call, steps);
     return 0;
 }
