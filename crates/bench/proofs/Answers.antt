@@ -7,6 +7,7 @@ use native.Mathlib.Omega.{arith}
 use lib.Dec.{eqb, leb}
 use lib.ListN.{length, getD}
 use borrow.Author.Tests.{eqb-true, le-leb, lt-leb}
+use Rattle.lists.proofs.Order.{at-in}
 use Rattle.rule.specs.Net.{Net}
 use Rattle.rule.specs.Steps.{Step, stepList}
 use Rattle.rule.specs.declared.Refusal.{Refusal}
@@ -28,7 +29,7 @@ use Rattle.steps.proofs.Vectors.{held-net, held-time}
 use Rattle.bench.specs.Orders.{entriesFit, orderReady, orderJudged}
 use Rattle.bench.specs.Ready.{StepEntry, Named, Taken, judgedIn}
 use Rattle.bench.specs.Bench.{Benched, benchRefused, benchDone, benchOrder, benchVector, benchOf}
-use Rattle.bench.proofs.Judging.{at-in, entries-of}
+use Rattle.bench.proofs.Judging.{entries-of}
 use Rattle.bench.proofs.Ties.{judged-is}
 
 -- The list in two arrays

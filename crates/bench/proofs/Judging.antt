@@ -4,16 +4,17 @@ use mathlib.Core.Path.{_≡_, refl, sym, ap, _∙_, subst}
 use mathlib.Core.Bool.{Bool, true, false, cond, not, false≢true}
 use mathlib.Core.List.{List, [], _∷_, map, List·Memᴰ·head, List·Memᴰ·tail, List·Memᴰ·cases-cons}
 use mathlib.Core.Logic.{_⊎_, inl, inr}
-use Prim.Native.Nat.{ℕ, zero, suc, _≤_, _<_}
+use Prim.Native.Nat.{ℕ, _≤_, _<_}
 use native.Mathlib.Omega.{arith}
 use native.Mathlib.Decide.{decLt}
 use lib.Dec.{eqb, ltb}
-use lib.ListN.{length, getD, length-map, List·getD-eq-default}
+use lib.ListN.{length, length-map, List·getD-eq-default}
 use borrow.Author.Tests.{eqb-true, eqb-false, eq-eqb, ne-eqb, ltb-true, lt-ltb}
 use Rattle.lists.specs.Entries.{_∈_, some, every, Sorted, Distinct}
 use Rattle.lists.proofs.Bools.{and-both, and-make, not-both}
 use Rattle.lists.proofs.Tests.{some-out, some-in, some-no, every-at, every-yes, in-map, out-map}
 use Rattle.lists.proofs.Number.{distinct-length}
+use Rattle.lists.proofs.Order.{at-in, distinct-at}
 use Rattle.rule.specs.Net.{Net, Pinned}
 use Rattle.rule.specs.Level.{Looped}
 use Rattle.rule.specs.Steps.{Step, sameStep, IsStep, stepReads, GoodOrder, stepList}
@@ -43,20 +44,6 @@ all-of xs ys d h l y m = go (some (sameStep y) xs) refl
             two : (x ≡ y) ⊎ (x ∈ xs) → x ∈ ys
             two (inl q) = subst (λ w. w ∈ ys) (sym q) m
             two (inr j) = h x j
-
--- an entry stands in its list
-pub at-in : {A : Type 0} (xs : List A) (i : ℕ) (d : A) → i < length xs → getD xs i d ∈ xs
-at-in [] i d l = absurd (omega arith)
-at-in (x ∷ xs) zero d l = List·Memᴰ·head refl
-at-in (x ∷ xs) (suc i) d l = List·Memᴰ·tail (at-in xs i d (omega arith))
-
--- and at one place only
-at-once : {A : Type 0} (xs : List A) (d : A) → Distinct xs → (i j : ℕ) → i < length xs → j < length xs → getD xs i d ≡ getD xs j d → i ≡ j
-at-once [] d o i j l h e = absurd (omega arith)
-at-once (x ∷ xs) d o zero zero l h e = refl
-at-once (x ∷ xs) d o zero (suc j) l h e = absurd (o .0 (getD xs j d) (at-in xs j d (omega arith)) e)
-at-once (x ∷ xs) d o (suc i) zero l h e = absurd (o .0 (getD xs i d) (at-in xs i d (omega arith)) (sym e))
-at-once (x ∷ xs) d o (suc i) (suc j) l h e = ap suc (at-once xs d (o .1) i j (omega arith) (omega arith) e)
 
 -- `onceEach`
 
@@ -136,7 +123,7 @@ module _ (c : List Net) (free : ¬ Looped c) (pinned : Pinned c) (order : List �
       only k m = let r = out-map (stepAt (stepList c)) order k m in subst (IsStep c) (sym (r .2)) (entry-step (r .0) (f .entries (r .0) (r .1)))
 
       distinct : Distinct ks
-      distinct = map-distinct (stepAt (stepList c)) order (λ i j m n q. at-once (stepList c) noStep (list-once c) i j (f .entries i m) (f .entries j n) q) (f .once)
+      distinct = map-distinct (stepAt (stepList c)) order (λ i j m n q. distinct-at (stepList c) noStep (list-once c) i j (f .entries i m) (f .entries j n) q) (f .once)
 
       all : (k : Step) → IsStep c k → k ∈ ks
       all k s = all-of ks (stepList c) distinct (λ x m. list-all c free pinned x (only x m)) (omega (arith, steps-long, f .long)) k (list-all c free pinned k s)
@@ -158,7 +145,7 @@ module _ (c : List Net) (free : ¬ Looped c) (pinned : Pinned c) (order : List �
   unfolding orderReady
   after-of entries once q =
       pairs-of-ready sameStep (stepReads c) same-one same-self ahead ks (λ k m. ne-eqb (k .time) 0 (λ z. let t = later k m in omega arith))
-      (map-distinct (stepAt (stepList c)) order (λ i j m n e. at-once (stepList c) noStep (list-once c) i j (entries i m) (entries j n) e) once) q
+      (map-distinct (stepAt (stepList c)) order (λ i j m n e. distinct-at (stepList c) noStep (list-once c) i j (entries i m) (entries j n) e) once) q
     where
       later : (k : Step) → k ∈ ks → 0 < k .time
       later k m = let r = out-map (stepAt (stepList c)) order k m in step-time c k (subst (IsStep c) (sym (r .2)) (entry-step (r .0) (entries (r .0) (r .1))))

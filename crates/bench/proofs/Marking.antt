@@ -12,6 +12,7 @@ use Rattle.lists.specs.Entries.{every}
 use Rattle.lists.specs.Listed.{listed}
 use Rattle.lists.proofs.Tests.{every-no}
 use Rattle.lists.proofs.Listed.{in-listed}
+use Rattle.lists.proofs.Order.{at-in}
 use Rattle.word.specs.Word.{bit, val}
 use Rattle.word.proofs.Words.{is-word}
 use Rattle.rule.specs.Steps.{Step}
@@ -21,7 +22,7 @@ use Rattle.steps.specs.Variables.{readIn, readsIn}
 use Rattle.bench.specs.Orders.{entriesFit}
 use Rattle.bench.specs.Bench.{notDone, byteIn}
 use Rattle.bench.specs.Ready.{StepEntry, orderSteps, doneOf, markIn, readyIn, judgedIn}
-use Rattle.bench.proofs.Judging.{at-in, entries-of}
+use Rattle.bench.proofs.Judging.{entries-of}
 
 -- A step's byte
 

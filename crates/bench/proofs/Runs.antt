@@ -11,6 +11,7 @@ use borrow.Author.Tests.{eq-eqb, ne-eqb}
 use Rattle.lists.specs.Listed.{listed}
 use Rattle.lists.proofs.Tests.{out-map}
 use Rattle.lists.proofs.Listed.{is-listed, listed-at, map-listed}
+use Rattle.lists.proofs.Order.{at-in}
 use Rattle.word.specs.Word.{bit, val}
 use Rattle.rule.specs.Net.{Net}
 use Rattle.rule.specs.Steps.{IsStep, stepList}
@@ -31,7 +32,6 @@ use Rattle.steps.proofs.Rooms.{fills-same}
 use Rattle.bench.specs.Orders.{stepsOf}
 use Rattle.bench.specs.Ready.{Taken, orderSteps}
 use Rattle.bench.specs.Bench.{Benched, notDone, byteAt, byteIn, benchDone}
-use Rattle.bench.proofs.Judging.{at-in}
 use Rattle.bench.proofs.Seen.{stands}
 use Rattle.bench.proofs.Ties.{named-steps}
 

@@ -15,9 +15,9 @@ use Rattle.lists.specs.Listed.{listed}
 use Rattle.lists.proofs.Bools.{not-both}
 use Rattle.lists.proofs.Tests.{some-in, some-out, some-append, every-no}
 use Rattle.lists.proofs.Listed.{listed-same, listed-set, listed-at}
-use Rattle.lists.proofs.Order.{sorted-append, sorted-one}
+use Rattle.lists.proofs.Order.{sorted-append, sorted-one, at-in}
 use Rattle.bench.specs.Orders.{onceEach, entriesFit}
-use Rattle.bench.proofs.Judging.{at-in, once-distinct, entries-true}
+use Rattle.bench.proofs.Judging.{once-distinct, entries-true}
 
 -- e stands among the first i entries
 abbrev pub stands : List ℕ → ℕ → ℕ → Bool

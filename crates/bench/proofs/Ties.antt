@@ -14,6 +14,7 @@ use borrow.Author.Tests.{eq-eqb, ne-eqb}
 use Rattle.lists.specs.Entries.{_∈_, every}
 use Rattle.lists.proofs.Bools.{or-later, not-both}
 use Rattle.lists.proofs.Tests.{map-on, out-map}
+use Rattle.lists.proofs.Order.{at-in}
 use Rattle.word.specs.Word.{bit, wordOf}
 use Rattle.word.specs.Times.{zeroIn}
 use Rattle.word.proofs.Bits.{bit-zero, bit-suc, bit-none}
@@ -38,7 +39,7 @@ use Rattle.steps.proofs.Cards.{step-low}
 use Rattle.steps.proofs.Words.{reads-same}
 use Rattle.bench.specs.Orders.{entriesFit, stepsOf, orderReady, orderJudged}
 use Rattle.bench.specs.Ready.{Named, orderSteps, doneOf, markIn, readyIn, judgedIn}
-use Rattle.bench.proofs.Judging.{at-in, entries-of}
+use Rattle.bench.proofs.Judging.{entries-of}
 
 -- Bits
 

@@ -6,8 +6,9 @@ use mathlib.Core.Logic.{_⊎_}
 use Prim.Native.Nat.{ℕ, _+_, _≤_, _<_}
 use native.Mathlib.Omega.{arith}
 use native.Mathlib.Decide.{decLe}
+use lib.Dec.{eqb}
 use lib.ListN.{length, getD}
-use borrow.Author.Tests.{lt-ltb, le-ltb}
+use borrow.Author.Tests.{lt-ltb, le-ltb, eqb-false}
 use Rattle.lists.specs.Entries.{_∈_}
 use Rattle.lists.specs.Listed.{listed}
 use Rattle.lists.proofs.Listed.{listed-at}
@@ -26,10 +27,10 @@ use Rattle.wiring.proofs.Layouts.{pins-laid, levels-laid, wires-laid, card-laid
 use Rattle.records.proofs.Fitted.{Fitted, fitted}
 use Rattle.card.specs.declared.Session.{Session}
 use Rattle.card.specs.Session.{none, inputsOf, sessionOf, cardOf, resting}
-use Rattle.card.specs.Allowed.{Legible, Accepted}
+use Rattle.card.specs.Allowed.{Legible, Fed, Accepted}
 use Rattle.card.specs.Held.{HasCard, Carded}
 use Rattle.card.specs.Asked.{netAsked}
-use Rattle.card.proofs.Tests.{deep-tells, long-tells}
+use Rattle.card.proofs.Tests.{tells-false, fed-tells, deep-tells, long-tells}
 
 -- a legible card fits the arrays, its gates have pins and known types
 pub legible-fits : (c : List CardNet) → Legible c → Fitted c
@@ -60,6 +61,14 @@ module _ (s : Session) (h : HasCard s) where
   pub inputs-are : s .inputs ≡ inputsOf c
   unfolding sessionOf
   inputs-are = ap (λ x. x .inputs) (h .laid)
+
+  -- there is an input, and so a net
+  pub inputs-some : (0 < s .inputs) × (0 < s .nets)
+  inputs-some =
+      let fed = h .accepted .fed in
+      let some = tells-false (eqb (inputsOf c) 0) (¬ Fed c) (fed-tells c) (λ n. n fed) in
+      let more : ¬ (inputsOf c ≡ 0) = eqb-false (inputsOf c) 0 some in
+      (omega (arith, inputs-are, more), omega (arith, nets-are, fed .1))
 
   pub gates-are : s .gates ≡ length (gateOrder c)
   unfolding sessionOf

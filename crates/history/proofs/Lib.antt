@@ -9,4 +9,3 @@ pub mod WaysBack
 pub mod Ran
 pub mod Histories
 pub mod Traces
-pub mod Results

@@ -7,7 +7,7 @@ use native.Mathlib.Nat.{suc-mul, mul-le-mul-right, le-div-iff-mul-le, div-lt-iff
 use native.Mathlib.Omega.{arith}
 use lib.Dec.{eqb, leb}
 use lib.ListN.{length, getD}
-use borrow.Author.Tests.{eq-eqb, ne-eqb, eqb-false, lt-ltb, le-ltb, lt-leb, le-leb, leb-true, ltb-true}
+use borrow.Author.Tests.{eq-eqb, ne-eqb, lt-ltb, le-ltb, lt-leb, le-leb, leb-true, ltb-true}
 use Rattle.lists.specs.Entries.{_∈_, every}
 use Rattle.lists.specs.Listed.{listed}
 use Rattle.lists.proofs.Tests.{every-at}
@@ -18,11 +18,7 @@ use Rattle.rule.specs.declared.Refusal.the-variants.{NotReady, VectorLength, Ve
 use Rattle.rule.specs.declared.Answer.{Answer}
 use Rattle.rule.specs.declared.Answer.the-variants.{Done, Refused}
 use Rattle.card.specs.declared.Session.{Session}
-use Rattle.card.specs.Session.{inputsOf, cardOf, resting}
-use Rattle.card.specs.Allowed.{Fed}
-use Rattle.card.specs.Held.{HasCard}
-use Rattle.card.proofs.Kept.{nets-are, inputs-are}
-use Rattle.card.proofs.Tests.{tells-false, fed-tells}
+use Rattle.card.specs.Session.{resting}
 use Rattle.session.specs.Good.{Good, histories}
 use Rattle.session.specs.Allowed.{Vector}
 use Rattle.session.specs.Inputs.{byteFits, given}
@@ -34,7 +30,7 @@ use Rattle.session.proofs.Refusals.{vector-takes}
 use Rattle.host.specs.Places.{part, area}
 use Rattle.host.specs.Made.{madeAgain}
 use Rattle.host.specs.Calls.{packed}
-use Rattle.host.specs.Many.{Ran, manyRun, manyJudged, keptAt, keptMany, Shown, manyDone, hostVectors}
+use Rattle.host.specs.Many.{manyRun, manyJudged, keptAt, keptMany, manyDone, hostVectors}
 use Rattle.host.proofs.Places.{length-area, part-listed}
 
 pub turn-next : (j n : ℕ) → j * n + n ≡ (j + 1) * n
@@ -152,14 +148,6 @@ kept-two b vs n (suc (suc k)) x y =
     ap₂ (λ i j. keptAt (keptAt b vs n i) vs n j) two one
 
 -- The judgement
-
-pub inputs-some : (s : Session) → HasCard s → (0 < s .inputs) × (0 < s .nets)
-inputs-some s h =
-    let c = cardOf s in
-    let fed = h .accepted .fed in
-    let some = tells-false (eqb (inputsOf c) 0) (¬ Fed c) (fed-tells c) (λ n. n fed) in
-    let more : ¬ (inputsOf c ≡ 0) = eqb-false (inputsOf c) 0 some in
-    (omega (arith, inputs-are s h, more), omega (arith, nets-are s h, fed .1))
 
 module _ (s : Session) (vs : List ℕ) (room : ℕ) where
   abbrev count : ℕ

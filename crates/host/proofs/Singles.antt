@@ -18,6 +18,7 @@ use Rattle.rule.specs.declared.Answer.{Answer}
 use Rattle.rule.specs.declared.Answer.the-variants.{Done, Refused}
 use Rattle.records.specs.Written.{Bytes}
 use Rattle.card.specs.declared.Session.{Session}
+use Rattle.card.proofs.Kept.{inputs-some}
 use Rattle.session.specs.Moves.{vectorOf}
 use Rattle.session.specs.Inputs.{byteFits}
 use Rattle.session.specs.Allowed.{Vector}
@@ -30,7 +31,7 @@ use Rattle.host.specs.Following.{Holding, Call, bytesAfter}
 use Rattle.host.specs.Many.{manyRun, manyJudged, keptMany, manyDone, eachVector, Shown, hostVectors}
 use Rattle.host.proofs.Places.{length-area, area-in, area-out, room-at}
 use Rattle.host.proofs.Making.{part-bytes}
-use Rattle.host.proofs.Many.{turn-next, inputs-some, many-vector, many-asks, many-left, vectors-done}
+use Rattle.host.proofs.Many.{turn-next, many-vector, many-asks, many-left, vectors-done}
 use Rattle.host.proofs.Following.{held-good, move-is, move-follows}
 
 -- What a vector keeps, place by place

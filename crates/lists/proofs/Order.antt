@@ -1,5 +1,5 @@
 -- Lists whose entries stand in an order, and lists in which no entry stands twice. Assumes nothing.
-use mathlib.Core.Path.{_≡_, refl, subst}
+use mathlib.Core.Path.{_≡_, refl, sym, ap, subst}
 use mathlib.Core.Bool.{Bool, true, false}
 use mathlib.Core.List.{List, [], _∷_, _++_, List·Memᴰ·head, List·Memᴰ·tail, List·Memᴰ·append-cases}
 use mathlib.Core.Logic.{_⊎_, inl, inr}
@@ -15,6 +15,14 @@ module _ {A : Type 0} where
   at-in [] i d l = absurd (omega arith)
   at-in (x ∷ xs) zero d l = List·Memᴰ·head refl
   at-in (x ∷ xs) (suc i) d l = List·Memᴰ·tail (at-in xs i d (omega arith))
+
+  -- and, where none stands twice, at one place only
+  pub distinct-at : (xs : List A) (d : A) → Distinct xs → (i j : ℕ) → i < length xs → j < length xs → getD xs i d ≡ getD xs j d → i ≡ j
+  distinct-at [] d o i j l h e = absurd (omega arith)
+  distinct-at (x ∷ xs) d o zero zero l h e = refl
+  distinct-at (x ∷ xs) d o zero (suc j) l h e = absurd (o .0 (getD xs j d) (at-in xs j d (omega arith)) e)
+  distinct-at (x ∷ xs) d o (suc i) zero l h e = absurd (o .0 (getD xs i d) (at-in xs i d (omega arith)) (sym e))
+  distinct-at (x ∷ xs) d o (suc i) (suc j) l h e = ap suc (distinct-at xs d (o .1) i j (omega arith) (omega arith) e)
 
   -- entries by their places
   pub sorted-at : (R : A → A → Type 0) (xs : List A) (d : A) (i j : ℕ) → i < j → j < length xs → Sorted R xs → R (getD xs i d) (getD xs j d)

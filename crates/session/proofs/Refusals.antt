@@ -1,6 +1,6 @@
 -- Rest and a vector: each number exactly when document 01 gives it, in its order; a refusal leaves the session; and two results that a
 -- contract allows are equal. Assumes nothing.
-use mathlib.Core.Path.{_≡_, refl, sym, _∙_, subst}
+use mathlib.Core.Path.{_≡_, refl, sym, subst}
 use mathlib.Core.Bool.{Bool, true, false, cond}
 use mathlib.Core.List.{List}
 use Prim.Native.Nat.{ℕ}
@@ -119,7 +119,3 @@ module _ (s : Session) (v : List ℕ) where
   pub vector-taken : (k : ℕ) → vectorOf s v .answer ≡ Done k → (s .rested ≡ true) × Vector (s .inputs) v × (k ≡ 0)
   unfolding vectorOf
   vector-taken k e = taken-fits s v (movedBy s (given (s .kinds) v)) (s .rested) k e
-
--- each contract names its result, so two results that it allows are equal
-pub one-result : {A : Type 0} {named : A} (r r′ : A) → r ≡ named → r′ ≡ named → r ≡ r′
-one-result r r′ e e′ = e ∙ sym e′

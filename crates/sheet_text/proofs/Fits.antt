@@ -15,8 +15,9 @@ use Rattle.rule.specs.Flag.{changes, flagOf}
 use Rattle.rule.specs.Level.{depth}
 use Rattle.rule.specs.Steps.{stepList}
 use Rattle.rule.specs.Numbers.{numberOf}
+use Rattle.rule.proofs.Numbers.{number-low}
 use Rattle.rule.specs.declared.Refusal.{Refusal}
-use Rattle.rule.specs.declared.Refusal.the-variants.{CutShort, BadRecord, TooManyNets, NoSuchPin, Looped, TooDeep, TooManySteps, BytesAfter, NoInput, VectorLength, VectorByte, NotReady, NoSuchNet, NoChange, OrderLength, OrderEntry, OrderEarly, NoRoom, TooManyAsked}
+use Rattle.rule.specs.declared.Refusal.the-variants.{NoRoom}
 use Rattle.rule.specs.declared.Answer.{Answer}
 use Rattle.rule.specs.declared.Answer.the-variants.{Done, Refused}
 use Rattle.records.specs.Written.{Bytes}
@@ -43,29 +44,7 @@ use Rattle.sheet_text.proofs.Lengths.{byte-short, word-short, line-shor
 use Rattle.sheet_text.proofs.Steps.{bytes-front, load-holds, vector-rests}
 use Rattle.sheet_text.proofs.Standing.{Placed, entry-placed, piece-stands}
 
--- every number of a refusal is below 256, and so are a before value and a flag
-
-number-low : (why : Refusal) → numberOf why < 256
-number-low CutShort = lit< tt
-number-low BadRecord = lit< tt
-number-low TooManyNets = lit< tt
-number-low NoSuchPin = lit< tt
-number-low Looped = lit< tt
-number-low TooDeep = lit< tt
-number-low TooManySteps = lit< tt
-number-low BytesAfter = lit< tt
-number-low NoInput = lit< tt
-number-low VectorLength = lit< tt
-number-low VectorByte = lit< tt
-number-low NotReady = lit< tt
-number-low NoSuchNet = lit< tt
-number-low NoChange = lit< tt
-number-low OrderLength = lit< tt
-number-low OrderEntry = lit< tt
-number-low OrderEarly = lit< tt
-number-low NoRoom = lit< tt
-number-low TooManyAsked = lit< tt
-
+-- a before value and a flag are bytes
 val-low : (b : Bool) → val b < 256
 val-low true = lit< tt
 val-low false = lit< tt

@@ -3,9 +3,9 @@ use mathlib.Core.Path.{sym, ap, _∙_}
 use native.Mathlib.Nat.{le-of-eq, le-div-iff-mul-le}
 use native.Mathlib.Omega.{arith}
 use lib.ListN.{length}
-use Rattle.card.proofs.Kept.{nets-are}
+use Rattle.card.proofs.Kept.{nets-are, inputs-some}
 use Rattle.host.specs.Many.{manyDone}
-use Rattle.host.proofs.Many.{inputs-some, many-asks, done-refused, done-all}
+use Rattle.host.proofs.Many.{many-asks, done-refused, done-all}
 use borrow.Author.Needs.{needs}
 use Rattle.host.proofs.do_many.Statement.{statement}
 use Rattle.host.proofs.do_many.Tie as tie

@@ -3,7 +3,8 @@ use mathlib.Core.Path.{_≡_, sym, _∙_}
 use mathlib.Core.Bool.{true}
 use borrow.Author.Tests.{not-true, not-false}
 use Rattle.card.specs.Held.{HasCard}
-use Rattle.host.proofs.Many.{inputs-some, many-12, many-10, many-11, many-18, many-0}
+use Rattle.card.proofs.Kept.{inputs-some}
+use Rattle.host.proofs.Many.{many-12, many-10, many-11, many-18, many-0}
 use borrow.Author.Needs.{needs}
 use Rattle.host.proofs.judge_many.Statement.{statement}
 use Rattle.host.proofs.judge_many.Tie as tie
