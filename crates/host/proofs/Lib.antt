@@ -2,10 +2,3 @@ pub mod Places
 pub mod Making
 pub mod Answering
 pub mod Many
-pub mod Singles
-pub mod Rooms
-pub mod Sizes
-pub mod Restarts
-pub mod Opened
-pub mod Leaving
-pub mod Following

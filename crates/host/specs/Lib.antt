@@ -1,5 +1,4 @@
 pub mod Places
 pub mod Made
 pub mod Calls
-pub mod Following
 pub mod Many

@@ -5,7 +5,6 @@ use Prim.Native.Nat.{ℕ, zero, suc, _+_, _-_, _*_, _/_, _%_}
 use lib.Dec.{eqb, leb, ltb}
 use lib.ListN.{length}
 use Rattle.lists.specs.Entries.{every}
-use Rattle.lists.specs.Listed.{listed}
 use Rattle.rule.specs.declared.Refusal.the-variants.{NotReady, VectorLength, VectorByte, NoRoom}
 use Rattle.rule.specs.declared.Answer.{Answer}
 use Rattle.rule.specs.declared.Answer.the-variants.{Done, Refused}
@@ -14,9 +13,7 @@ use Rattle.session.specs.Inputs.{byteFits}
 use Rattle.session.specs.Moves.{vectorOf}
 use Rattle.host.specs.Places.{part, area}
 use Rattle.host.specs.Made.{madeAgain}
-use Rattle.host.specs.declared.Move.the-variants.{Vector}
 use Rattle.host.specs.Calls.{packed, keptVector}
-use Rattle.host.specs.Following.{Call}
 
 -- a session, and lent room for words
 pub record Ran : Type 0 where
@@ -69,7 +66,3 @@ hostVectors b vs room =
     let kept : Answer → Shown = λ a. record { answer = packed a; bytes = b; words = room } in
     cond (ltb (length b) 5895) (kept (Refused NoRoom))
     (cond (m .whole) (manyDone (m .session) b vs room (manyJudged (m .session) vs (length room))) (kept (Refused NotReady)))
-
--- the same vectors, a call each
-unfoldable pub eachVector : List ℕ → ℕ → ℕ → List Call
-eachVector vs n k = listed (λ j. record { how = Vector; given = part vs (j * n) n }) k

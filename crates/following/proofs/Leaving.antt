@@ -17,15 +17,15 @@ use Rattle.card.proofs.Kept.{session-holds}
 use Rattle.session.specs.Inputs.{given}
 use Rattle.session.specs.Moves.{movedBy, restedBy}
 use Rattle.session.specs.Allowed.{Vector}
 use Rattle.host.specs.Places.{part, clear, lastRoom}
 use Rattle.host.specs.Calls.{keptCard, keptRest, keptVector}
-use Rattle.host.specs.Following.{Holding}
+use Rattle.following.specs.Following.{Holding}
 use Rattle.host.proofs.Places.{room-bytes, one-byte, zero-byte}
 use Rattle.host.proofs.Making.{inputs-few}
-use Rattle.host.proofs.Rooms.{card-long, card-bytes, card-state, card-fitting, card-length, card-clear, card-part, rooms, rooms-long, rooms-bytes, rooms-state, rooms-length, rooms-clear, rooms-card, rooms-fit, rooms-given, room-moved, room-ends}
-use Rattle.host.proofs.Sizes.{card-size}
-use Rattle.host.proofs.Restarts.{moved-again}
-use Rattle.host.proofs.Opened.{Carried, inputs, values, atRest, afterBoth, Kept, keeps-none, keeps-card, keeps-rest, keeps-moved, closed}
+use Rattle.following.proofs.Rooms.{card-long, card-bytes, card-state, card-fitting, card-length, card-clear, card-part, rooms, rooms-long, rooms-bytes, rooms-state, rooms-length, rooms-clear, rooms-card, rooms-fit, rooms-given, room-moved, room-ends}
+use Rattle.following.proofs.Sizes.{card-size}
+use Rattle.following.proofs.Restarts.{moved-again}
+use Rattle.following.proofs.Opened.{Carried, inputs, values, atRest, afterBoth, Kept, keeps-none, keeps-card, keeps-rest, keeps-moved, closed}
 
 module _ (b v : List ℕ) (long : 5895 ≤ length b) (bytes : Bytes b) (given-bytes : Bytes v) where
   -- A card that was just loaded

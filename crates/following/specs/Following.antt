@@ -1,13 +1,16 @@
 -- Calls one after another, on lent bytes and on the library's own sessions. Assumes nothing.
 use mathlib.Core.Path.{_≡_}
 use mathlib.Core.List.{List, [], _∷_}
-use Prim.Native.Nat.{ℕ, _≤_}
+use Prim.Native.Nat.{ℕ, _*_, _≤_}
 use lib.ListN.{length}
+use Rattle.lists.specs.Listed.{listed}
 use Rattle.records.specs.Written.{Bytes}
 use Rattle.card.specs.declared.Session.{Session}
 use Rattle.host.specs.declared.Move.{Move}
+use Rattle.host.specs.declared.Move.the-variants.{Vector}
+use Rattle.host.specs.Places.{part}
 use Rattle.host.specs.Made.{held, madeAgain}
 use Rattle.host.specs.Calls.{packed, operated, Hosted, hostMove}
 
 -- lent bytes that hold a session
 pub record Holding (b : List ℕ) (s : Session) : Type 0 where
@@ -36,3 +39,7 @@ hostAnswers b (c ∷ cs) = let h = hostMove (c .how) b (c .given) in h .answer �
 unfoldable pub libraryAnswers : Session → List Call → List ℕ
 libraryAnswers s [] = []
 libraryAnswers s (c ∷ cs) = let m = operated (c .how) s (c .given) in packed (m .answer) ∷ libraryAnswers (m .session) cs
+
+-- many vectors of n bytes each, a call for each
+unfoldable pub eachVector : List ℕ → ℕ → ℕ → List Call
+eachVector vs n k = listed (λ j. record { how = Vector; given = part vs (j * n) n }) k

@@ -23,16 +23,16 @@ use Rattle.session.specs.Moves.{vectorOf}
 use Rattle.session.specs.Inputs.{byteFits}
 use Rattle.session.specs.Allowed.{Vector}
 use Rattle.session.proofs.Refusals.{vector-takes}
 use Rattle.host.specs.declared.Move.the-variants.{Vector as ByFields}
 use Rattle.host.specs.Places.{part, area, lastRoom}
 use Rattle.host.specs.Made.{madeAgain}
 use Rattle.host.specs.Calls.{packed, keptVector, leftBy, hostMove}
-use Rattle.host.specs.Following.{Holding, Call, bytesAfter}
-use Rattle.host.specs.Many.{manyRun, manyJudged, keptMany, manyDone, eachVector, Shown, hostVectors}
+use Rattle.following.specs.Following.{Holding, Call, bytesAfter, eachVector}
+use Rattle.host.specs.Many.{manyRun, manyJudged, keptMany, manyDone, Shown, hostVectors}
 use Rattle.host.proofs.Places.{length-area, area-in, area-out, room-at}
 use Rattle.host.proofs.Making.{part-bytes}
 use Rattle.host.proofs.Many.{turn-next, many-vector, many-asks, many-left, vectors-done}
-use Rattle.host.proofs.Following.{held-good, move-is, move-follows}
+use Rattle.following.proofs.Following.{held-good, move-is, move-follows}
 
 -- What a vector keeps, place by place
 

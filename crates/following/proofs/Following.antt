@@ -32,16 +32,16 @@ use Rattle.history.proofs.Histories.{history-refused}
 use Rattle.steps.specs.Variables.{Ran}
 use Rattle.steps.specs.Vector.{ranAlong, ranSession, stepsVectorOf}
 use Rattle.steps.proofs.Engines.{run-count, engines-equal}
 use Rattle.host.specs.declared.Move.{Move}
 use Rattle.host.specs.declared.Move.the-variants.{Load, Rest, Vector, Steps}
 use Rattle.host.specs.Made.{madeAgain}
 use Rattle.host.specs.Calls.{packed, operated, Hosted, Shown, leftBy, hostMove, hostHistory}
-use Rattle.host.specs.Following.{Holding, Call, bytesAfter, sessionAfter, hostAnswers, libraryAnswers}
+use Rattle.following.specs.Following.{Holding, Call, bytesAfter, sessionAfter, hostAnswers, libraryAnswers}
 use Rattle.host.proofs.Places.{clear-make}
 use Rattle.host.proofs.Making.{again-good}
 use Rattle.host.proofs.Answering.{move-left, history-shown}
-use Rattle.host.proofs.Opened.{Kept, keeps-none, opened, closed}
-use Rattle.host.proofs.Leaving.{load-holds, rest-holds, vector-holds}
+use Rattle.following.proofs.Opened.{Kept, keeps-none, opened, closed}
+use Rattle.following.proofs.Leaving.{load-holds, rest-holds, vector-holds}
 
 -- a slice of zeros is the empty session
 pub zeros-hold : (b : List ℕ) → 5895 ≤ length b → Bytes b → ((i : ℕ) → i < 5895 → getD b i 0 ≡ 0) → Holding b none
