@@ -78,7 +78,7 @@ int main(int argc, char **argv)
     uint8_t rest[SIM_NETS] = {0};
     hand_load(&h, &s);
     double fields = 1e30, hand = 1e30, events = 1e30, call = 1e30, steps = 1e30;
-    for (int turn = 0; turn < 20; turn++) {
+    for (int turn = 0; turn < 40; turn++) {
         memset(session, 0, sizeof session);
         krasvome_load(session, sizeof session, bytes, length);
         krasvome_rest(session, sizeof session, rest, n);
