@@ -28,7 +28,7 @@ use Rattle.steps.specs.Variables.{Ran, ran, Doable, numbered, ordered, historie
 use Rattle.steps.specs.Listing.{noStep, stepAt}
 use Rattle.steps.specs.Vector.{startVars, ranAlong, ranSession}
 use Rattle.steps.proofs.Cards.{step-low, steps-doable}
-use Rattle.steps.proofs.Rooms.{fills-same}
+use Rattle.lists.proofs.Rooms.{fills-same}
 use Rattle.bench.specs.Orders.{stepsOf}
 use Rattle.bench.specs.Ready.{Taken, orderSteps}
 use Rattle.bench.specs.Bench.{Benched, notDone, byteAt, byteIn, benchDone}

@@ -31,7 +31,8 @@ use Rattle.sheet_text.proofs.next as next-fn
 use Rattle.host.specs.declared.Move.{Move}
 use Rattle.host.specs.declared.Move.the-variants.{Load, Rest, Vector, Steps}
 use Rattle.host.specs.Calls.{Hosted, hostMove, Shown, hostHistory}
-use Rattle.host.specs.Many.{Shown as ManyShown, hostVectors}
+use Rattle.many.specs.Many.{Shown as ManyShown}
+use Rattle.host.specs.Vectors.{hostVectors}
 use Rattle.host.proofs.krasvome_load as host-load-fn
 use Rattle.host.proofs.krasvome_rest as host-rest-fn
 use Rattle.host.proofs.krasvome_vector as host-vector-fn

@@ -34,11 +34,11 @@ use Rattle.steps.specs.Vector.{ranAlong, ranSession, stepsVectorOf}
 use Rattle.steps.proofs.Engines.{run-count, engines-equal}
 use Rattle.host.specs.declared.Move.{Move}
 use Rattle.host.specs.declared.Move.the-variants.{Load, Rest, Vector, Steps}
-use Rattle.host.specs.Made.{madeAgain}
+use Rattle.making.specs.Made.{madeAgain}
 use Rattle.host.specs.Calls.{packed, operated, Hosted, Shown, leftBy, hostMove, hostHistory}
 use Rattle.following.specs.Following.{Holding, Call, bytesAfter, sessionAfter, hostAnswers, libraryAnswers}
-use Rattle.host.proofs.Places.{clear-make}
-use Rattle.host.proofs.Making.{again-good}
+use Rattle.lists.proofs.Places.{clear-make}
+use Rattle.making.proofs.Making.{again-good}
 use Rattle.host.proofs.Answering.{move-left, history-shown}
 use Rattle.following.proofs.Opened.{Kept, keeps-none, opened, closed}
 use Rattle.following.proofs.Leaving.{load-holds, rest-holds, vector-holds}

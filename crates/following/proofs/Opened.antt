@@ -24,10 +24,11 @@ use Rattle.session.specs.Inputs.{given}
 use Rattle.session.specs.Moves.{movedBy, vectorOf, restedBy, restOf}
 use Rattle.session.specs.Allowed.{Vector}
 use Rattle.session.proofs.Refusals.{Ruling, refuses, takes, rest-ruled, rest-takes, vector-ruled, vector-takes}
-use Rattle.host.specs.declared.Made.{Made}
-use Rattle.host.specs.Places.{part, clear}
-use Rattle.host.specs.Made.{broken, done, held, madeBy, fitting, madePlain, madeRested, madeMoved, madeCard, madeLoaded, madeAgain}
-use Rattle.host.proofs.Making.{by-done, plain-is, rested-is, moved-is, card-1, card-2, card-3, loaded-is, again-none, again-loaded, part-bytes}
+use Rattle.making.specs.declared.Made.{Made}
+use Rattle.lists.specs.Places.{part, clear}
+use Rattle.making.specs.Made.{broken, done, held, madeBy, fitting, madePlain, madeRested, madeMoved, madeCard, madeLoaded, madeAgain}
+use Rattle.making.proofs.Making.{by-done, plain-is, rested-is, moved-is, card-1, card-2, card-3, loaded-is, again-none, again-loaded}
+use Rattle.keeping.proofs.Bytes.{part-bytes}
 
 -- the bytes carry a card
 pub record Carried (b : List ℕ) (c : List Net) : Type 0 where

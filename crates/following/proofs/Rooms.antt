@@ -10,10 +10,12 @@ use lib.ListN.{length, getD, List·getD-eq-default}
 use Rattle.lists.proofs.Bools.{and-make}
 use Rattle.records.specs.Bytes.{u16At}
 use Rattle.records.specs.Written.{Bytes}
-use Rattle.host.specs.Places.{part, clear, area, lastRoom}
-use Rattle.host.specs.Made.{fitting}
-use Rattle.host.specs.Calls.{keptCard, keptRest, keptVector}
-use Rattle.host.proofs.Places.{clear-at, clear-make, length-area, area-in, area-out, part-same, part-whole, area-bytes, room-at, one-byte, zero-byte}
+use Rattle.lists.specs.Places.{part, clear, area}
+use Rattle.keeping.specs.Kept.{lastRoom}
+use Rattle.making.specs.Made.{fitting}
+use Rattle.keeping.specs.Kept.{keptCard, keptRest, keptVector}
+use Rattle.lists.proofs.Places.{clear-at, clear-make, length-area, area-in, area-out, part-same, part-whole}
+use Rattle.keeping.proofs.Bytes.{area-bytes, room-at, one-byte, zero-byte}
 
 -- A card that was just loaded
 

@@ -1,18 +1,17 @@
 -- Many vectors in one call leave the bytes that the same vectors leave one by one, and so the session that the library's own calls leave; a refused call
 -- leaves bytes and room as they were. Assumes nothing.
-use mathlib.Core.Path.{_≡_, refl, sym, ap, ap₂, subst, _∙_}
+use mathlib.Core.Path.{_≡_, refl, sym, ap, subst, _∙_}
 use mathlib.Core.Bool.{Bool, true, false, cond}
 use mathlib.Core.List.{List, [], _∷_, _++_}
 use mathlib.Core.Logic.{_⊎_, inl, inr}
-use Prim.Native.Nat.{ℕ, zero, suc, _+_, _-_, _*_, _/_, _%_, _≤_, _<_}
+use Prim.Native.Nat.{ℕ, zero, suc, _+_, _-_, _*_, _≤_, _<_}
 use native.Mathlib.Nat.{le-of-eq, le-div-iff-mul-le}
 use native.Mathlib.Omega.{arith}
-use native.Mathlib.Decide.{decLt, decLe}
-use lib.Dec.{ltb, lit≤}
+use native.Mathlib.Decide.{decLt}
+use lib.Dec.{ltb}
 use lib.ListN.{length, getD}
-use Rattle.lists.specs.Entries.{_∈_, every}
-use Rattle.lists.specs.Listed.{listed}
-use Rattle.lists.proofs.Listed.{is-listed, listed-self, listed-ext, listed-none, listed-more}
+use Rattle.lists.specs.Entries.{every}
+use Rattle.lists.proofs.Listed.{is-listed, listed-none, listed-more}
 use Rattle.rule.specs.declared.Refusal.the-variants.{NotReady, NoRoom}
 use Rattle.rule.specs.declared.Answer.{Answer}
 use Rattle.rule.specs.declared.Answer.the-variants.{Done, Refused}
@@ -24,14 +23,19 @@ use Rattle.session.specs.Inputs.{byteFits}
 use Rattle.session.specs.Allowed.{Vector}
 use Rattle.session.proofs.Refusals.{vector-takes}
 use Rattle.host.specs.declared.Move.the-variants.{Vector as ByFields}
-use Rattle.host.specs.Places.{part, area, lastRoom}
-use Rattle.host.specs.Made.{madeAgain}
-use Rattle.host.specs.Calls.{packed, keptVector, leftBy, hostMove}
+use Rattle.lists.specs.Places.{part, area}
+use Rattle.keeping.specs.Kept.{lastRoom}
+use Rattle.making.specs.Made.{madeAgain}
+use Rattle.host.specs.Calls.{packed, leftBy, hostMove}
+use Rattle.keeping.specs.Kept.{keptVector}
 use Rattle.following.specs.Following.{Holding, Call, bytesAfter, eachVector}
-use Rattle.host.specs.Many.{manyRun, manyJudged, keptMany, manyDone, Shown, hostVectors}
-use Rattle.host.proofs.Places.{length-area, area-in, area-out, room-at}
-use Rattle.host.proofs.Making.{part-bytes}
-use Rattle.host.proofs.Many.{turn-next, many-vector, many-asks, many-left, vectors-done}
+use Rattle.many.specs.Many.{manyRun, manyJudged, keptMany}
+use Rattle.host.specs.Vectors.{manyDone, Shown, hostVectors}
+use Rattle.lists.proofs.Places.{length-area, area-in, area-out}
+use Rattle.keeping.proofs.Bytes.{room-at}
+use Rattle.keeping.proofs.Bytes.{part-bytes}
+use Rattle.many.proofs.Many.{turn-next, many-vector, many-asks, many-left}
+use Rattle.host.proofs.Vectors.{vectors-done}
 use Rattle.following.proofs.Following.{held-good, move-is, move-follows}
 
 -- What a vector keeps, place by place

@@ -24,7 +24,7 @@ use Rattle.wiring.proofs.Passes.{pass-more}
 use Rattle.session.specs.Inputs.{isInputKind, rank, given}
 use Rattle.session.specs.Fields.{fieldOf, fieldAt, pinWord, topsOf, passed, inputsPut, constantAt}
 use Rattle.session.proofs.Vectors.{not-zero, rank-below, rank-up, given-input}
-use Rattle.session.proofs.Fills.{put-rest}
+use Rattle.lists.proofs.Fills.{put-rest}
 
 -- the value at time t of the i-th pin of a gate; what the pins come to, pin by pin
 abbrev pub pin : List ℕ → List ℕ → ℕ → ℕ → ℕ → Bool

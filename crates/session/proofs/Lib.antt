@@ -1,4 +1,3 @@
-pub mod Fills
 pub mod Vectors
 pub mod Fields
 pub mod States

@@ -17,7 +17,7 @@ use Rattle.card.specs.Session.{cardOf}
 use Rattle.card.proofs.Kept.{card-steps}
 use Rattle.session.specs.Good.{Good}
 use Rattle.steps.specs.Listing.{stepAt, Holds, listOf}
-use Rattle.steps.proofs.Rooms.{fills-none, fills-same, fills-at, fills-past, fills-through}
+use Rattle.lists.proofs.Rooms.{fills-none, fills-same, fills-at, fills-past, fills-through}
 use Rattle.steps.proofs.Vectors.{held-net, held-time}
 use Rattle.steps.proofs.Answers.{list-12, list-18, list-0}
 use Rattle.step_records.specs.declared.StepRecord.{StepRecord}

@@ -25,7 +25,7 @@ use Rattle.session.specs.Good.{Good}
 use Rattle.history.specs.Filled.{filled}
 use Rattle.steps.specs.Variables.{numbered, stepsOf}
 use Rattle.steps.specs.Listing.{stepAt, Holds, Listed, listOf}
-use Rattle.steps.proofs.Rooms.{fills-same, fills-at, fills-past}
+use Rattle.lists.proofs.Rooms.{fills-same, fills-at, fills-past}
 use Rattle.steps.proofs.Vectors.{held-net, held-time}
 
 module _ (s : Session) (nets times : List ℕ) where

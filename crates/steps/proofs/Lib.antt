@@ -1,6 +1,5 @@
 pub mod Pins
 pub mod Stores
-pub mod Rooms
 pub mod Lists
 pub mod Runs
 pub mod Histories

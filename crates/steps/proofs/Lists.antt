@@ -15,7 +15,7 @@ use Rattle.word.specs.Word.{bit}
 use Rattle.rule.specs.Steps.{Step}
 use Rattle.history.specs.Filled.{filled}
 use Rattle.steps.specs.Listing.{noStep, stepAt, timeIn, timesIn, stepsIn, gatesIn, Holds}
-use Rattle.steps.proofs.Rooms.{fills-none, fills-more}
+use Rattle.lists.proofs.Rooms.{fills-none, fills-more}
 
 -- One step more
 

@@ -29,7 +29,7 @@ use Rattle.history.specs.Filled.{filled}
 use Rattle.steps.specs.Variables.{Words, numbered, stepsOf, Ran, ran, historiesFrom}
 use Rattle.steps.specs.Listing.{stepAt, Holds}
 use Rattle.steps.specs.Vector.{startVars, ranAlong, ranSession, ranMove, stepsVectorOf}
-use Rattle.steps.proofs.Rooms.{fills-at}
+use Rattle.lists.proofs.Rooms.{fills-at}
 
 -- the steps that two arrays name are those that they hold
 module _ {ks : List Step} {nets₀ times₀ nets times : List ℕ} {n : ℕ} (h : Holds ks nets₀ times₀ nets times n) (ln : length nets₀ ≡ 4096) (lt : length times₀ ≡ 4096) (few : n ≤ 4096) where

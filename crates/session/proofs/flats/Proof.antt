@@ -10,7 +10,7 @@ use borrow.Author.Needs.{needs}
 use Rattle.lists.specs.Listed.{listed, upto}
 use Rattle.word.specs.Word.{wordOf}
 use Rattle.word.proofs.Words.{is-word}
-use Rattle.session.proofs.Fills.{fill-none, fill-more, fill-all}
+use Rattle.lists.proofs.Fills.{fill-none, fill-more, fill-all}
 use Rattle.session.proofs.flats.Statement.{statement}
 use Rattle.session.proofs.flats.Tie as tie
 

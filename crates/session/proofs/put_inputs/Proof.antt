@@ -8,7 +8,7 @@ use lib.ListN.{getD}
 use borrow.Author.Needs.{needs}
 use Rattle.lists.specs.Listed.{listed, upto}
 use Rattle.session.specs.Inputs.{rank}
-use Rattle.session.proofs.Fills.{put-none, put-more, put-skip}
+use Rattle.lists.proofs.Fills.{put-none, put-more, put-skip}
 use Rattle.session.proofs.Vectors.{rank-none, rank-input, rank-other, rank-up, rank-left}
 use Rattle.session.proofs.Fields.{putAt, put-input, put-other, all-put}
 use Rattle.session.proofs.put_inputs.Statement.{statement}

@@ -6,7 +6,7 @@ use native.Mathlib.Omega.{arith}
 use borrow.Author.Needs.{needs}
 use Rattle.lists.specs.Listed.{listed, upto}
 use Rattle.session.specs.Fields.{startAt}
-use Rattle.session.proofs.Fills.{fill-none, fill-more, fill-all}
+use Rattle.lists.proofs.Fills.{fill-none, fill-more, fill-all}
 use Rattle.session.proofs.start.Statement.{statement}
 use Rattle.session.proofs.start.Tie as tie
 

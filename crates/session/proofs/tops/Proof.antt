@@ -9,7 +9,7 @@ use lib.ListN.{getD}
 use borrow.Author.Needs.{needs}
 use Rattle.lists.specs.Listed.{listed, upto}
 use Rattle.word.specs.Word.{bit}
-use Rattle.session.proofs.Fills.{fill-none, fill-more, fill-all}
+use Rattle.lists.proofs.Fills.{fill-none, fill-more, fill-all}
 use Rattle.session.proofs.tops.Statement.{statement}
 use Rattle.session.proofs.tops.Tie as tie
 

@@ -9,7 +9,7 @@ use lib.ListN.{length}
 use borrow.Author.Needs.{needs}
 use Rattle.lists.specs.Listed.{listed, upto}
 use Rattle.session.specs.Inputs.{rank, given}
-use Rattle.session.proofs.Fills.{fill-none, fill-more, fill-skip, fill-all}
+use Rattle.lists.proofs.Fills.{fill-none, fill-more, fill-skip, fill-all}
 use Rattle.session.proofs.Vectors.{rank-none, rank-input, rank-other, rank-le, rank-below, given-input, given-other}
 use Rattle.session.proofs.values_of.Statement.{statement}
 use Rattle.session.proofs.values_of.Tie as tie

@@ -55,7 +55,7 @@ use Rattle.card.proofs.Session.Laws as Se′
 use Rattle.rule.proofs.Answer as An
 use Rattle.rule.proofs.Answer.Laws as An′
 use Rattle.session.specs.Good.{Good}
-use Rattle.steps.proofs.Rooms.{fills-none, fills-length, fills-next}
+use Rattle.lists.proofs.Rooms.{fills-none, fills-length, fills-next}
 use Rattle.step_records.specs.Records.{blank, recordsIn, listingOf, recordsOf}
 use Rattle.step_records.specs.declared.StepRecord.{StepRecord}
 use Rattle.step_records.specs.declared.Listing.{Listing}

@@ -1,7 +1,7 @@
 -- `steps::copy_times` meets its contract. The loop's invariant: the first i places are filled. The measure is what is left of n. Assumes nothing.
 use Prim.Native.Nat.{_-_}
 use native.Mathlib.Omega.{arith}
-use Rattle.steps.proofs.Rooms.{Copied, copied-none, copied-length, copied-more, copied-all}
+use Rattle.lists.proofs.Rooms.{Copied, copied-none, copied-length, copied-more, copied-all}
 use borrow.Author.Needs.{needs}
 use Rattle.steps.proofs.copy_times.Statement.{statement}
 use Rattle.steps.proofs.copy_times.Tie as tie

@@ -4,7 +4,7 @@ use mathlib.Core.Path.{_≡_}
 use Prim.Native.Nat.{ℕ, _-_, _≤_}
 use native.Mathlib.Omega.{arith}
 use Rattle.lists.specs.Listed.{listed, upto}
-use Rattle.session.proofs.Fills.{fill-none, fill-more, fill-all}
+use Rattle.lists.proofs.Fills.{fill-none, fill-more, fill-all}
 use Rattle.steps.specs.Variables.{historyFrom, historiesFrom}
 use borrow.Author.Needs.{needs}
 use Rattle.steps.proofs.histories_from.Statement.{statement}
