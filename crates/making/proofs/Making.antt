@@ -19,6 +19,7 @@ use Rattle.card.specs.Session.{none, isInput, inputsOf, sessionOf}
 use Rattle.card.specs.Load.{loadOf}
 use Rattle.card.specs.Allowed.{Accepted}
 use Rattle.card.proofs.Verdicts.{load-taken}
+use Rattle.keeping.proofs.Bytes.{part-bytes}
 use Rattle.session.specs.Good.{Good}
 use Rattle.session.proofs.Kept.{none-good, load-good, rest-good, vector-good}
 use Rattle.session.specs.declared.Moved.{Moved}
