@@ -10,7 +10,7 @@ use Rattle.host.specs.Calls.{hostMove, hostHistory}
 use Rattle.host.specs.Vectors.{hostVectors}
 use Rattle.following.specs.Following.{Call, bytesAfter}
 
--- bytes that some calls left of a slice whose first 5,895 bytes were 0
+-- bytes that some calls left of a slice whose first 5,895 bytes were 0; many vectors in one call leave what single ones leave (`many-follow`)
 pub record Left (b : List ℕ) : Type 0 where
   pub zeros : List ℕ
   pub room : 5895 ≤ length zeros
