@@ -77,7 +77,7 @@ both-taken c v w h = vector-takes (atRest c v) w refl h
 -- Bytes that say so hold the session
 
 module _ (b : List ℕ) (h : Bytes b) where
-  carries : (c : List Net) → Carried b c → loadOf none (part b 515 (u16At b 1)) ≡ taken c
+  pub carries : (c : List Net) → Carried b c → loadOf none (part b 515 (u16At b 1)) ≡ taken c
   carries c k =
       load-takes none (part b 515 (u16At b 1)) (part-bytes b h 515 (u16At b 1)) (record { card = c; bytes = k .bytes; accepted = k .accepted })
 
