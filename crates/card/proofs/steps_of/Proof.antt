@@ -1,12 +1,11 @@
--- `lines::steps_of` meets its contract: the sizes of the gates' sets, added, are the number of steps. Assumes nothing.
+-- `card::steps_of` meets its contract: the sizes of the gates' sets, added, are the number of steps. Assumes nothing.
 use mathlib.Core.Path.{_∙_}
-use Rattle.steps.proofs.Cards.{list-asked}
-use Rattle.sheet_text.proofs.Cards.{steps-is}
-use Rattle.sheet_text.proofs.lines.steps_of.Statement.{statement}
-use Rattle.sheet_text.proofs.lines.steps_of.Tie as tie
+use Rattle.card.proofs.Kept.{order-fits, steps-is}
+use Rattle.card.proofs.steps_of.Statement.{statement}
+use Rattle.card.proofs.steps_of.Tie as tie
 
 steps-of-requires : tie.Need-steps-of-requires
-steps-of-requires c κs = let s = c .before .before .before in let q = list-asked (s .args .t1) (s .pre) in (q .0, q .1)
+steps-of-requires c κs = let s = c .before .before .before in order-fits (s .args .t1) (s .pre)
 
 returns : tie.Need-returns
 returns c = let s = c .before .before .before .before in c .steps-of .ensures ∙ steps-is (s .args .t1) (s .pre)
