@@ -1,22 +1,22 @@
 -- A bench run, for every good session and every input: each number exactly when document 01 gives it, in its order, and then nothing is
 -- changed; else each step done has the rule's value, the rest 2; and the session moves only when the list is whole. Assumes nothing.
 use mathlib.Core.Path.{_≡_, refl, sym, ap, ap₂, _∙_, subst}
-use mathlib.Core.Bool.{Bool, true, false, cond, true≢false}
+use mathlib.Core.Bool.{Bool, true, false, cond}
 use mathlib.Core.List.{List, [], _∷_, map}
 use Prim.Native.Nat.{ℕ, zero, suc, _≤_, _<_}
 use native.Mathlib.Omega.{arith}
 use lib.Dec.{eqb, leb}
 use lib.ListN.{length, getD, take, length-map}
 use lib.Seq.{take-length, length-take-le}
-use borrow.Author.Tests.{eqb-true, eqb-false, eq-eqb, ne-eqb, leb-true, leb-false, le-leb, lt-leb, le-ltb, ltb-true, ltb-false}
-use Rattle.lists.specs.Entries.{_∈_, every}
-use Rattle.lists.proofs.Tests.{some-in, some-no, every-at, every-no, every-fails, in-map}
+use borrow.Author.Tests.{eqb-true, eqb-false, eq-eqb, ne-eqb, leb-true, leb-false, le-leb, lt-leb}
+use Rattle.lists.specs.Entries.{_∈_}
+use Rattle.lists.proofs.Tests.{some-in, some-no, in-map}
 use Rattle.word.specs.Word.{bit, val}
 use Rattle.rule.specs.Net.{Net}
 use Rattle.rule.specs.Rule.{value}
 use Rattle.rule.specs.Steps.{GoodOrder, stepList}
 use Rattle.rule.specs.declared.Refusal.{Refusal}
-use Rattle.rule.specs.declared.Refusal.the-variants.{NotReady, VectorLength, VectorByte, OrderLength, OrderEntry, OrderEarly, TooManyAsked, NoRoom}
+use Rattle.rule.specs.declared.Refusal.the-variants.{NotReady, OrderLength, OrderEntry, OrderEarly, TooManyAsked, NoRoom}
 use Rattle.rule.specs.declared.Answer.the-variants.{Done, Refused}
 use Rattle.rule.proofs.Runs.{take-in}
 use Rattle.wiring.specs.declared.Verdict.{Verdict}
@@ -26,10 +26,10 @@ use Rattle.card.specs.Session.{cardOf}
 use Rattle.card.specs.Held.{HasCard}
 use Rattle.card.proofs.Kept.{card-fits}
 use Rattle.session.specs.Good.{Good}
-use Rattle.session.specs.Allowed.{Vector, Gets, gets-12, gets-10, gets-11}
-use Rattle.session.specs.Inputs.{byteFits, given, vectorFits}
+use Rattle.session.specs.Allowed.{Vector, Gets, gets-12}
+use Rattle.session.specs.Inputs.{given, vectorFits}
 use Rattle.session.specs.Moves.{ends, movedBy}
-use Rattle.session.proofs.Refusals.{vector-fits}
+use Rattle.session.proofs.Refusals.{vector-fits, Fitting, misfit, fits, fitting, misfit-is, only-12}
 use Rattle.session.proofs.Kept.{moved-good}
 use Rattle.history.proofs.Fills.{fill-length, fill-at, fill-past}
 use Rattle.steps.specs.Variables.{Ran}
@@ -40,32 +40,6 @@ use Rattle.bench.specs.Orders.{stepsOf, orderJudged}
 use Rattle.bench.specs.Bench.{Benched, notDone, byteAt, benchRefused, benchDone, benchOrder, benchVector, benchOf}
 use Rattle.bench.specs.Allowed.{stepsIn, Entries, Reading, BenchGets, gets-vector, gets-15, gets-16, gets-17, gets-19, gets-18, Doing}
 use Rattle.bench.proofs.Judging.{Judgement, gets-15 as judged-15, gets-16 as judged-16, gets-17 as judged-17, taken, judgement, good-fit, good-passes}
-
--- A vector's verdict
-
-data Fitting (inputs : ℕ) (v : List ℕ) : Verdict → Type 0 where
-  misfit : (r : Refusal) → Gets true inputs v r → Fitting inputs v (Faulty r)
-  fits : Vector inputs v → Fitting inputs v Passed
-
-fitting : (inputs : ℕ) (v : List ℕ) → Fitting inputs v (vectorFits inputs v)
-unfolding vectorFits
-fitting inputs v = go (eqb (length v) inputs) refl (every byteFits v) refl
-  where
-    go : (a : Bool) → eqb (length v) inputs ≡ a → (b : Bool) → every byteFits v ≡ b → Fitting inputs v (cond a (cond b Passed (Faulty VectorByte)) (Faulty VectorLength))
-    go false p b q = misfit VectorLength (gets-10 refl (eqb-false (length v) inputs p))
-    go true p false q = let w = every-fails byteFits v q in misfit VectorByte (gets-11 refl (eqb-true (length v) inputs p) (w .0) (w .1) (ltb-false (w .0) 2 (w .2)))
-    go true p true q = fits (record { size = eqb-true (length v) inputs p; bits = λ b m. ltb-true b 2 (every-at byteFits v q b m) })
-
-misfit-is : (inputs : ℕ) (v : List ℕ) (ready : Bool) (r : Refusal) → ready ≡ true → Gets ready inputs v r → vectorFits inputs v ≡ Faulty r
-unfolding vectorFits
-misfit-is inputs v ready r e (gets-12 n) = let z : true ≡ false = sym e ∙ n in absurd (true≢false z)
-misfit-is inputs v ready r e (gets-10 y l) = rw (ne-eqb (length v) inputs l)
-misfit-is inputs v ready r e (gets-11 y l b m h) = rw (eq-eqb (length v) inputs l, every-no byteFits v b m (le-ltb b 2 h))
-
-only-12 : (inputs : ℕ) (v : List ℕ) (ready : Bool) (r : Refusal) → ready ≡ false → Gets ready inputs v r → r ≡ NotReady
-only-12 inputs v ready r e (gets-12 n) = refl
-only-12 inputs v ready r e (gets-10 y l) = absurd (true≢false (sym y ∙ e))
-only-12 inputs v ready r e (gets-11 y l b m h) = absurd (true≢false (sym y ∙ e))
 
 take-map : {A B : Type 0} (f : A → B) (k : ℕ) (xs : List A) → take k (map f xs) ≡ map f (take k xs)
 take-map f zero xs = refl
@@ -211,7 +185,7 @@ module _ (s : Session) (good : Good s) (v order : List ℕ) (k : ℕ) (room : Li
     unfolding benchDone
     bench-answers = ap (λ b. b .moved .answer) bench-does ∙ ap (λ n. Done n) count-is
 
-    -- the byte of a step that was done is the rule's value, that of any other 2
+    -- the byte of a step that was done is the rule's value, that of any other says so
     pub bench-proper : (e : ℕ) → e ∈ take k order
         → getD (result .room) e 0 ≡ val (value c (ends s) new (stepAt (stepList c) e .net) (stepAt (stepList c) e .time))
     unfolding benchDone
@@ -222,8 +196,8 @@ module _ (s : Session) (good : Good s) (v order : List ℕ) (k : ℕ) (room : Li
         ∙ ap val (ap (λ ks. bit (getD (ranAlong s new ks .words) (stepAt (stepList c) e .net) 0) (stepAt (stepList c) e .time)) (sym (take-map (stepAt (stepList c)) k order))
         ∙ any .first-have k (stepAt (stepList c) e) (subst (λ ks. stepAt (stepList c) e ∈ ks) (sym (take-map (stepAt (stepList c)) k order)) (in-map (stepAt (stepList c)) (take k order) e m)))
 
-    pub bench-others : (e : ℕ) → e < stepsIn s → ¬ (e ∈ take k order) → getD (result .room) e 0 ≡ 2
-    unfolding benchDone notDone
+    pub bench-others : (e : ℕ) → e < stepsIn s → ¬ (e ∈ take k order) → getD (result .room) e 0 ≡ notDone
+    unfolding benchDone
     bench-others e l n =
         ap (λ b. getD (b .room) e 0) bench-does
         ∙ fill-at (byteAt c (along .words) (take k order)) room (stepsIn s) e l (d .roomy)

@@ -26,8 +26,7 @@ use Rattle.bench.proofs.Judging.{entries-of}
 
 -- A step's byte
 
-pub byte-not : (done b : Bool) → done ≡ false → 2 ≡ cond done (val b) notDone
-unfolding notDone
+pub byte-not : (done b : Bool) → done ≡ false → notDone ≡ cond done (val b) notDone
 byte-not done b e = rw e
 
 pub byte-done : (done b x : Bool) → done ≡ true → b ≡ x → val x ≡ cond done (val b) notDone

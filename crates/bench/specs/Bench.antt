@@ -28,7 +28,7 @@ pub record Benched : Type 0 where
   pub moved : Moved
   pub room : List ℕ
 
--- the byte of a step that was not done
+-- the byte of a step that was not done: "the step's value if it is among the first k, else 2"
 unfoldable pub notDone : ℕ
 notDone = 2
 

@@ -141,12 +141,15 @@ fn among(order: &[u16], k: usize) -> [bool; 4096]
     out
 }
 
-// The byte of a step: its variable's value if it was done, else 2.
+// The byte of a step that was not done.
+const NOT_DONE: u8 = 2;
+
+// The byte of a step: its variable's value if it was done.
 fn step_byte(done: bool, word: u64, t: u32) -> u8
     ensures { λ r. ⌜ r ≡ cond done (val (bit word t)) notDone ⌝ }
 {
     if !done {
-        return 2;
+        return NOT_DONE;
     }
     let w = PcSet { word };
     if w.has(t) { 1 } else { 0 }

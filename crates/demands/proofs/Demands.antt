@@ -43,7 +43,7 @@ use Rattle.steps.specs.Listing.{stepAt}
 use Rattle.steps.specs.Vector.{ranAlong, stepsVectorOf}
 use Rattle.steps.proofs.Engines.{AnyOrder, run-any-order, steps-number, engines-equal}
 use Rattle.bench.specs.Orders.{stepsOf, orderJudged}
-use Rattle.bench.specs.Bench.{Benched, benchOf}
+use Rattle.bench.specs.Bench.{Benched, notDone, benchOf}
 use Rattle.bench.specs.Allowed.{stepsIn, Doing, BenchGets, gets-vector, gets-15, gets-16, gets-17, gets-19, gets-18}
 use Rattle.bench.proofs.Judging.{Fit, good-fit, Judgement, judgement, gets-15 as judged-15, gets-16 as judged-16, gets-17 as judged-17, taken as judged-taken}
 use Rattle.bench.proofs.Benches.{bench-refuses, bench-refused, bench-answers, bench-proper, bench-others, bench-whole, bench-stays, bench-good}
@@ -260,7 +260,7 @@ module _ (s : Session) (g : Good s) (rested : s .rested ≡ true) (v : List ℕ)
     pub record BenchValues : Type 0 where
       pub done : benched .moved .answer ≡ Done k
       pub first : (e : ℕ) → e ∈ take k order → let step = stepAt (stepList c) e in getD (benched .room) e 0 ≡ val (ruled (step .net) (step .time))
-      pub others : (e : ℕ) → e < stepsIn s → ¬ (e ∈ take k order) → getD (benched .room) e 0 ≡ 2
+      pub others : (e : ℕ) → e < stepsIn s → ¬ (e ∈ take k order) → getD (benched .room) e 0 ≡ notDone
 
     pub demand-3-bench-values : stepsIn s ≤ length room → BenchValues
     demand-3-bench-values roomy = record {

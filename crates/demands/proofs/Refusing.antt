@@ -53,7 +53,7 @@ load-keeps : (s : Session) (b : List ℕ) → Refusing s (slices []) (outcome s 
 unfolding loadOf judged
 load-keeps s b = by-meaning (meaning b)
   where
-    by-verdict : (c : List Net) (t : Bool) (w : Verdict) → let l = cond t (refusal s NoInput) (concluded s c w) in Refusing s (slices []) (answered (l .answer) (l .session) (slices []))
+    by-verdict : (c : List Net) (t : Bool) (w : Verdict) → let l = cond t (refusal s NoInput) (concluded s c (length c) w) in Refusing s (slices []) (answered (l .answer) (l .session) (slices []))
     by-verdict c true w = refuses NoInput
     by-verdict c false (Faulty why) = refuses why
     by-verdict c false Passed = does (length c)

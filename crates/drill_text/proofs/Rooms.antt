@@ -15,7 +15,8 @@ use Rattle.drill_text.specs.declared.Command.the-variants.{Bad, Load, Re
 use Rattle.drill_text.specs.Parts.{words}
 use Rattle.drill_text.specs.Digits.{limited, numberOf, roomOf, isHex}
 use Rattle.drill_text.specs.Orders.{isOrder}
-use Rattle.drill_text.specs.Lines.{sameText, load, rest, vector, steps, history, list, records, net, trace, bench, ifHex, recordsOf, netOf, listOf, historyOf, traceOf, benchOf, withOne, withTwo, withThree, withFour, asked, commandOf, RoomsFit}
+use Rattle.text.specs.Text.{sameText}
+use Rattle.drill_text.specs.Lines.{load, rest, vector, steps, history, list, records, net, trace, bench, ifHex, recordsOf, netOf, listOf, historyOf, traceOf, benchOf, withOne, withTwo, withThree, withFour, asked, commandOf, RoomsFit}
 use Rattle.drill_text.proofs.Asking.{line-long}
 
 -- a room's length, if it was read

@@ -1,9 +1,10 @@
 -- What a line asks for. Assumes nothing.
-use mathlib.Core.Bool.{Bool, true, false, cond}
+use mathlib.Core.Bool.{cond}
 use mathlib.Core.List.{List, [], _∷_}
 use Prim.Native.Nat.{ℕ, _≤_}
-use lib.Dec.{eqb, ltb}
+use lib.Dec.{ltb}
 use lib.ListN.{length}
+use Rattle.text.specs.Text.{sameText}
 use Rattle.drill_text.specs.declared.Number.{Number}
 use Rattle.drill_text.specs.declared.Number.the-variants.{Spelled, Unreadable}
 use Rattle.drill_text.specs.declared.Command.{Command}
@@ -11,13 +12,6 @@ use Rattle.drill_text.specs.declared.Command.the-variants.{Bad, Load, Re
 use Rattle.drill_text.specs.Parts.{words}
 use Rattle.drill_text.specs.Digits.{numberOf, roomOf, isHex}
 use Rattle.drill_text.specs.Orders.{isOrder}
-
--- two texts are the same
-unfoldable pub sameText : List ℕ → List ℕ → Bool
-sameText [] [] = true
-sameText [] (y ∷ ys) = false
-sameText (x ∷ xs) [] = false
-sameText (x ∷ xs) (y ∷ ys) = cond (eqb x y) (sameText xs ys) false
 
 -- the names of the operations, in ASCII
 

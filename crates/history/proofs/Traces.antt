@@ -23,7 +23,7 @@ use Rattle.rule.specs.declared.Answer.the-variants.{Done, Refused}
 use Rattle.card.specs.Session.{cardOf}
 use Rattle.card.specs.Held.{HasCard}
 use Rattle.card.specs.declared.Session.{Session}
-use Rattle.card.proofs.Kept.{nets-are, card-pins}
+use Rattle.card.proofs.Kept.{nets-are, few, card-pins}
 use Rattle.session.specs.Good.{Rested, Good}
 use Rattle.history.specs.Filled.{filled}
 use Rattle.history.specs.Traced.{Traced, movedAt, changedThen, wayBack, traceOf}
@@ -31,7 +31,7 @@ use Rattle.history.proofs.Fills.{fill-list, fill-length, fill-at, fill-
 use Rattle.history.proofs.Ways.{way-length, way-first, way-next, way-on}
 use Rattle.history.proofs.Causes.{pinChanged, Cause}
 use Rattle.history.proofs.WaysBack.{entry, Changed, entry-changed, entry-cause, last-changed, last-is-input}
-use Rattle.history.proofs.Ran.{holds, few, ruleValue, moved-is, pin-moved-is, pin-readable}
+use Rattle.history.proofs.Ran.{holds, ruleValue, moved-is, pin-moved-is, pin-readable}
 
 -- an answer that leaves the room as it was
 abbrev pub unwritten : List ℕ → Answer → Traced

@@ -15,7 +15,7 @@ use Rattle.rule.specs.Rule.{value, AtRest}
 use Rattle.rule.proofs.Values.{constant-is}
 use Rattle.rule.proofs.Rests.{ends-at-rest}
 use Rattle.card.specs.declared.Session.{Session}
-use Rattle.card.specs.Session.{cardOf, resting}
+use Rattle.card.specs.Session.{cardOf, wordAt, resting}
 use Rattle.card.specs.Held.{HasCard}
 use Rattle.card.proofs.Kept.{card-fits, card-level}
 use Rattle.session.specs.Good.{histories, Rested}
@@ -63,7 +63,7 @@ module _ (s : Session) (h : HasCard s) (r : Rested s) where
   unfolding movedBy ends histories
   words-move v = advance-pass s h (ends s) (given (s .kinds) v) v (s .words) constant-word (λ n. refl) (λ n l. refl)
     where
-      constant-word : (n : ℕ) (k : Bool) → n < 256 → netAt c n ≡ constant k → getD (s .words) n 0 ≡ wordOf 64 (λ t. k)
+      constant-word : (n : ℕ) (k : Bool) → n < 256 → netAt c n ≡ constant k → wordAt s n ≡ wordOf 64 (λ t. k)
       constant-word n k l e =
           ap (λ ws. getD ws n 0) (r .words-are) ∙ listed-at (λ m. wordOf 64 (value c (r .old) (r .new) m)) 256 n 0 l
           ∙ word-ext 64 (value c (r .old) (r .new) n) (λ t. k) (λ t b. constant-is c (r .old) (r .new) n t k e)

@@ -18,6 +18,7 @@ use Rattle.word.proofs.Sets.{count-le, count-more}
 use Rattle.rule.specs.declared.Refusal.the-variants.{VectorLength, VectorByte}
 use Rattle.wiring.specs.declared.Verdict.the-variants.{Refused, Passed}
 use Rattle.session.specs.Inputs.{isInputKind, rank, given, byteFits, vectorFits, inputsRead}
+use Rattle.session.specs.Allowed.{byteLimit}
 
 -- `x != 0`
 pub not-zero : (x : ℕ) → not (eqb x 0) ≡ isOne x
@@ -31,10 +32,10 @@ pub all-fit : (v : List ℕ) (i : ℕ) → i ≡ length v → every byteFits (li
 all-fit v i e h = ap (every byteFits) (listed-self v 0) ∙ ap (λ k. every byteFits (listed (λ j. getD v j 0) k)) (sym e) ∙ h
 
 -- a byte that is neither 0 nor 1
-pub one-unfit : (v : List ℕ) (i : ℕ) → i < length v → 1 < getD v i 0 → every byteFits v ≡ false
+pub one-unfit : (v : List ℕ) (i : ℕ) → i < length v → byteLimit ≤ getD v i 0 → every byteFits v ≡ false
 one-unfit v i l h =
     ap (every byteFits) (listed-self v 0)
-    ∙ every-no byteFits (listed (λ k. getD v k 0) (length v)) (getD v i 0) (in-listed (λ k. getD v k 0) (length v) i l) (le-ltb (getD v i 0) 2 h)
+    ∙ every-no byteFits (listed (λ k. getD v k 0) (length v)) (getD v i 0) (in-listed (λ k. getD v k 0) (length v) i l) (le-ltb (getD v i 0) byteLimit h)
 
 -- Inputs
 

@@ -8,13 +8,17 @@ use Rattle.lists.specs.Entries.{_∈_}
 use Rattle.rule.specs.declared.Refusal.{Refusal}
 use Rattle.rule.specs.declared.Refusal.the-variants.{NotReady, VectorLength, VectorByte}
 
+-- a vector byte is 0 or 1: it is below this
+abbrev pub byteLimit : ℕ
+byteLimit = 2
+
 -- "one byte an input", each 0 or 1
 pub record Vector (inputs : ℕ) (v : List ℕ) : Type 0 where
   pub size : length v ≡ inputs
-  pub bits : (b : ℕ) → b ∈ v → b < 2
+  pub bits : (b : ℕ) → b ∈ v → b < byteLimit
 
 -- "Rest: 12 (card only), 10, 11. Vector by either engine: 12, 10, 11." `ready`: there is a card; for a vector, it is rested
 pub data Gets (ready : Bool) (inputs : ℕ) (v : List ℕ) : Refusal → Type 0 where
   gets-12 : ready ≡ false → Gets ready inputs v NotReady
   gets-10 : ready ≡ true → ¬ (length v ≡ inputs) → Gets ready inputs v VectorLength
-  gets-11 : ready ≡ true → length v ≡ inputs → (b : ℕ) → b ∈ v → 2 ≤ b → Gets ready inputs v VectorByte
+  gets-11 : ready ≡ true → length v ≡ inputs → (b : ℕ) → b ∈ v → byteLimit ≤ b → Gets ready inputs v VectorByte

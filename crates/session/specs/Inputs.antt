@@ -14,6 +14,7 @@ use Rattle.wiring.specs.declared.Verdict.{Verdict}
 use Rattle.wiring.specs.declared.Verdict.the-variants.{Refused, Passed}
 use Rattle.card.specs.Session.{isInput}
 use Rattle.session.specs.declared.Inputs.{Inputs}
+use Rattle.session.specs.Allowed.{byteLimit}
 
 abbrev pub isInputKind : ℕ → Bool
 isInputKind kind = eqb kind 1
@@ -32,7 +33,7 @@ givenTo c v n = cond (isInput (netAt c n)) (isOne (getD v (count (λ m. isInput 
 
 -- a vector byte is 0 or 1
 abbrev pub byteFits : ℕ → Bool
-byteFits b = ltb b 2
+byteFits b = ltb b byteLimit
 
 -- "10: vector not one byte an input; 11: a vector byte not 0 or 1"
 unfoldable pub vectorFits : ℕ → List ℕ → Verdict

@@ -2,7 +2,6 @@
 use mathlib.Core.Bool.{Bool, true, false, cond}
 use mathlib.Core.List.{List}
 use Prim.Native.Nat.{ℕ}
-use lib.ListN.{getD}
 use Rattle.lists.specs.Listed.{listed}
 use Rattle.word.specs.Word.{bit, wordOf}
 use Rattle.rule.specs.Net.{Net}
@@ -13,7 +12,7 @@ use Rattle.rule.specs.declared.Answer.the-variants.{Done, Refused}
 use Rattle.wiring.specs.declared.Verdict.{Verdict}
 use Rattle.wiring.specs.declared.Verdict.the-variants.{Refused as Faulty, Passed}
 use Rattle.card.specs.declared.Session.{Session}
-use Rattle.card.specs.Session.{cardOf, resting}
+use Rattle.card.specs.Session.{cardOf, wordAt, resting}
 use Rattle.session.specs.declared.Moved.{Moved}
 use Rattle.session.specs.Good.{histories}
 use Rattle.session.specs.Inputs.{given, vectorFits}
@@ -28,7 +27,7 @@ moving s Passed count next = record { answer = Done count; session = next }
 
 -- "The value at 63 is the next before value."
 unfoldable pub ends : Session → ℕ → Bool
-ends s n = bit (getD (s .words) n 0) 63
+ends s n = bit (wordAt s n) 63
 
 -- a vector moves a session: the histories are the rule's, from the last vector's end
 unfoldable pub movedBy : Session → (ℕ → Bool) → Session

@@ -43,13 +43,16 @@ pub struct Inputs {
     pub values: [bool; 256],
 }
 
+// A vector byte is 0 or 1: it is below this.
+const BYTE_LIMIT: u8 = 2;
+
 // Whether every byte is 0 or 1.
 pub fn bytes_fit(v: &[u8]) -> bool
     ensures { λ r. ⌜ r ≡ every byteFits (now (v .entry)) ⌝ }
 {
     let mut i: usize = 0;
     while i < v.len() {
-        if 1 < v[i] {
+        if BYTE_LIMIT <= v[i] {
             return false;
         }
         i += 1;

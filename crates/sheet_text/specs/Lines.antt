@@ -10,8 +10,8 @@ use Rattle.rule.specs.Numbers.{numberOf}
 use Rattle.rule.specs.Steps.{stepList}
 use Rattle.rule.specs.declared.Refusal.{Refusal}
 use Rattle.card.specs.declared.Session.{Session}
-use Rattle.card.specs.Session.{cardOf}
-use Rattle.history.specs.Told.{wordAt, beforeAt, flagAt}
+use Rattle.card.specs.Session.{cardOf, wordAt, beforeAt}
+use Rattle.history.specs.Told.{flagAt}
 use lib.ListN.{length}
 
 -- a blank, LF, and the words of the lines with the blank after each, in ASCII

@@ -1,14 +1,12 @@
 -- A session that holds a card: the list that the arrays mean is the card's step list, and its steps may be done. Assumes nothing.
-use mathlib.Core.Path.{_≡_, refl, sym, ap, _∙_, subst}
-use mathlib.Core.List.{List, [], _∷_, _++_, append-nil, List·Memᴰ·head, List·Memᴰ·tail}
+use mathlib.Core.Path.{_≡_, sym, ap, _∙_}
+use mathlib.Core.List.{List, [], _∷_, _++_, append-nil}
 use Prim.Native.Nat.{ℕ, zero, suc, _+_, _-_, _≤_, _<_}
 use native.Mathlib.Nat.{add-zero, add-suc}
 use native.Mathlib.Omega.{arith}
-use lib.Dec.{lit<}
 use lib.ListN.{length, getD}
 use Rattle.lists.specs.Entries.{_∈_, each, when, from}
 use Rattle.lists.proofs.Joined.{out-from, from-more, each-append, each-ext}
-use Rattle.lists.proofs.Listed.{listed-all}
 use Rattle.word.specs.Word.{bit}
 use Rattle.word.proofs.Words.{bit-word}
 use Rattle.rule.specs.Net.{Net}
@@ -22,17 +20,11 @@ use Rattle.rule.proofs.StepRuns.{step-time}
 use Rattle.card.specs.declared.Session.{Session}
 use Rattle.card.specs.Session.{cardOf}
 use Rattle.card.specs.Held.{HasCard}
-use Rattle.card.proofs.Kept.{order-is, card-fits, card-depth, card-level, card-steps, card-sets}
-use Rattle.session.proofs.Held.{order-back, gate-fits, gates-fit}
+use Rattle.card.proofs.Kept.{card-fits, order-back, order-fits, card-depth, card-level, card-steps, card-sets}
+use Rattle.session.proofs.Held.{gate-fits}
 use Rattle.steps.specs.Variables.{Doable}
 use Rattle.steps.specs.Listing.{timeIn, timesIn, stepsIn, gatesIn, Holds}
 use Rattle.steps.proofs.Lists.{hold-same}
-
--- what holds of a list's entries holds of what is read from it
-read-all : (P : ℕ → Type 0) (xs : List ℕ) (i d : ℕ) → ((x : ℕ) → x ∈ xs → P x) → P d → P (getD xs i d)
-read-all P [] i d h e = e
-read-all P (x ∷ xs) zero d h e = h x (List·Memᴰ·head refl)
-read-all P (x ∷ xs) (suc i) d h e = read-all P xs i d (λ y m. h y (List·Memᴰ·tail m)) e
 
 -- lists of nothing past d
 each-ends : {A : Type 0} (f : ℕ → List A) (d k : ℕ) → ((t : ℕ) → d < t → f t ≡ []) → each f (from 1 (d + k)) ≡ each f (from 1 d)
@@ -54,11 +46,6 @@ module _ (s : Session) (h : HasCard s) where
 
   in-order-low : (n : ℕ) → n ∈ gateOrder c → n < 256
   in-order-low n m = omega (arith, out-order c n m .1, few)
-
-  order-low : (i : ℕ) → getD (s .order) i 0 < 256
-  order-low i =
-      subst (λ xs. getD xs i 0 < 256) (sym (order-is s h))
-      (listed-all (λ x. x < 256) (λ j. getD (gateOrder c) j 0) 256 i 0 (read-all (λ x. x < 256) (gateOrder c) i 0 in-order-low (lit< tt)) (lit< tt))
 
   -- The step list
 
@@ -83,7 +70,7 @@ module _ (s : Session) (h : HasCard s) where
 
   -- what the list's filling asks of a card
   pub list-asked : (s .gates ≤ 256) × ((i : ℕ) → getD (s .order) i 0 < 256) × (length (stepsIn (s .sets) (gatesIn (s .order) (s .gates))) ≤ 4096)
-  list-asked = (gates-fit s h .0, order-low, omega (arith, card-steps s h, ap length steps-are))
+  list-asked = (order-fits s h .0, order-fits s h .1, omega (arith, card-steps s h, ap length steps-are))
 
   -- the list in two arrays is the card's
   module _ {nets₀ times₀ nets times : List ℕ} {total : ℕ} (held : Holds (stepsIn (s .sets) (gatesIn (s .order) (s .gates))) nets₀ times₀ nets times total) where

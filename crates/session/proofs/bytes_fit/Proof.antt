@@ -12,6 +12,7 @@ use Rattle.lists.specs.Listed.{listed}
 use Rattle.lists.proofs.Listed.{listed-none}
 use Rattle.wiring.proofs.Pins.{every-more}
 use Rattle.session.specs.Inputs.{byteFits}
+use Rattle.session.specs.Allowed.{byteLimit}
 use Rattle.session.proofs.Vectors.{all-fit, one-unfit}
 use Rattle.session.proofs.bytes_fit.Statement.{statement}
 use Rattle.session.proofs.bytes_fit.Tie as tie
@@ -41,7 +42,7 @@ loop-again : tie.Need-loop-again Inv-loop μ-loop
 loop-again c =
     let l = c .before .before .before .loop in
     let v = c .before .before .before .before .args .v .now in
-    (omega arith, every-more byteFits (λ k. getD v k 0) (l .i) (l .inv .1) (lt-ltb (getD v (l .i) 0) 2 (omega arith)))
+    (omega arith, every-more byteFits (λ k. getD v k 0) (l .i) (l .inv .1) (lt-ltb (getD v (l .i) 0) byteLimit (omega arith)))
 
 returns-2 : tie.Need-returns-2 Inv-loop μ-loop
 returns-2 c = sym (all-fit (c .before .before .args .v .now) (c .before .loop .i) (omega arith) (c .before .loop .inv .1))

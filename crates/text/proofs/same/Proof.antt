@@ -1,13 +1,13 @@
--- Whether two texts are the same: from i on it is the same question. Assumes nothing.
+-- `text::same` meets its contract: from i on it is the same question. Assumes nothing.
 use mathlib.Core.Path.{_≡_, refl, sym, _∙_}
 use Prim.Native.Nat.{_-_, _≤_}
 use native.Mathlib.Omega.{arith}
 use lib.ListN.{length, drop}
-use Rattle.drill_text.specs.Lines.{sameText}
-use Rattle.drill_text.proofs.Asking.{same-lengths, same-stop, same-on, same-end}
+use Rattle.text.specs.Text.{sameText}
+use Rattle.text.proofs.Texts.{same-lengths, same-stop, same-on, same-end}
 use borrow.Author.Needs.{needs}
-use Rattle.drill_text.proofs.lines.same.Statement.{statement}
-use Rattle.drill_text.proofs.lines.same.Tie as tie
+use Rattle.text.proofs.same.Statement.{statement}
+use Rattle.text.proofs.same.Tie as tie
 
 abbrev Inv-loop : tie.InvT-loop
 Inv-loop a b i₀ i = (i ≤ length a) × (length a ≡ length b) × (sameText (drop i a) (drop i b) ≡ sameText a b)

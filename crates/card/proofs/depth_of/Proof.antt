@@ -1,11 +1,9 @@
--- `lines::depth_of` meets its contract: the levels worked out from the wiring are the card's. Assumes nothing.
+-- `card::depth_of` meets its contract: the levels worked out from the wiring are the card's. Assumes nothing.
 use mathlib.Core.Path.{ap, _∙_}
 use Rattle.wiring.specs.Wires.{highest}
-use Rattle.card.proofs.Kept.{card-wires, card-fitting}
-use Rattle.history.proofs.Ran.{few}
-use Rattle.sheet_text.proofs.Cards.{depth-is}
-use Rattle.sheet_text.proofs.lines.depth_of.Statement.{statement}
-use Rattle.sheet_text.proofs.lines.depth_of.Tie as tie
+use Rattle.card.proofs.Kept.{few, card-wires, card-fitting, depth-is}
+use Rattle.card.proofs.depth_of.Statement.{statement}
+use Rattle.card.proofs.depth_of.Tie as tie
 
 gates-back-requires : tie.Need-gates-back-requires
 gates-back-requires c κs = let s = c .before .before .before in (card-wires (s .args .t1) (s .pre), card-fitting (s .args .t1) (s .pre))
