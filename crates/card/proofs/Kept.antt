@@ -18,10 +18,10 @@ use Rattle.rule.specs.Net.{Net as CardNet, pins, openPin}
 use Rattle.rule.specs.Chain.{pcSet}
 use Rattle.rule.specs.Level.{level, depth}
 use Rattle.rule.specs.Steps.{gateOrder, stepList}
-use Rattle.rule.proofs.Depths.{level-depth}
-use Rattle.rule.proofs.GateOrders.{out-order, order-once}
 use Rattle.rule.specs.declared.Refusal.the-variants.{NotReady, NoSuchNet}
 use Rattle.rule.specs.declared.NetAnswer.the-variants.{Net, Refused}
+use Rattle.rule.proofs.Depths.{level-depth}
+use Rattle.rule.proofs.GateOrders.{out-order, order-once}
 use Rattle.wiring.specs.Layout.{kindsOf, typesOf, countsOf, placesOf, pinsAt}
 use Rattle.wiring.specs.Wires.{Wires, Fitting, backs, highest, padded, sizesOf}
 use Rattle.wiring.specs.Wired.{setWords}

@@ -16,6 +16,7 @@ use Rattle.rule.specs.Steps.{gateOrder, stepList}
 use Rattle.rule.specs.declared.Refusal.{Refusal}
 use Rattle.rule.specs.declared.Refusal.the-variants.{NoInput, NoSuchPin, Looped, TooDeep, TooManySteps}
 use Rattle.rule.specs.declared.Answer.the-variants.{Done}
+use Rattle.rule.proofs.Nets.{at-pin-all}
 use Rattle.wiring.specs.declared.Verdict.{Verdict}
 use Rattle.wiring.specs.declared.Verdict.the-variants.{Refused as Faulty, Passed}
 use Rattle.wiring.specs.declared.Wired.{Wired}
@@ -24,12 +25,11 @@ use Rattle.wiring.specs.Wires.{Wires}
 use Rattle.wiring.specs.Wired.{pinsFit, mostBack, setWords, passed, refused as faulty, wiredOf}
 use Rattle.wiring.proofs.Layouts.{wires-laid, kind-at, kind-past}
 use Rattle.wiring.proofs.CardSets.{count-ends}
-use Rattle.rule.proofs.Nets.{at-pin-all}
 use Rattle.records.specs.declared.Outcome.the-variants.{Refused, Read}
 use Rattle.records.specs.declared.Parsed.{Parsed}
 use Rattle.records.specs.Written.{Bytes}
-use Rattle.records.proofs.Fitted.{read-fits}
 use Rattle.records.specs.Scan.{Meaning, Stops, Means, meaning, parsedOf}
+use Rattle.records.proofs.Fitted.{read-fits}
 use Rattle.card.specs.declared.Session.{Session}
 use Rattle.card.specs.declared.Loaded.{Loaded}
 use Rattle.card.specs.Session.{isInput, inputsOf, sessionOf}

@@ -22,16 +22,12 @@ use Rattle.records.proofs.Cards.{read-back, written, why, stops}
 use Rattle.records.proofs.Fitted.{read-fits}
 use Rattle.card.specs.declared.Session.{Session}
 use Rattle.card.specs.declared.Loaded.{Loaded}
-use Rattle.card.specs.Session.{inputsOf, sessionOf}
-use Rattle.card.specs.Load.{refusal, concluded, judged, loadMeant, loadOf}
+use Rattle.card.specs.Session.{inputsOf}
+use Rattle.card.specs.Load.{refusal, taken, concluded, judged, loadMeant, loadOf}
 use Rattle.card.specs.Allowed.{Fed, Deep, Long, Accepted, Allowed, Writes, Gets, gets-stopped, gets-9, gets-4, gets-5, gets-6, gets-7}
 use Rattle.card.specs.Held.{HasCard, Carded}
 use Rattle.card.proofs.Kept.{session-holds, taken-carded}
 use Rattle.card.proofs.Tests.{Tells, tells-true, tells-false, fed-tells, fed-or-not, named-tells, loop-tells, deep-tells, long-tells}
-
--- a card that is taken
-abbrev pub taken : List Net → Loaded
-taken c = record { answer = Done (length c); session = sessionOf c }
 
 -- The judgement of a card that was read
 

@@ -20,6 +20,10 @@ use Rattle.card.specs.Session.{inputsOf, sessionOf}
 abbrev pub refusal : Session → Refusal → Loaded
 refusal old why = record { answer = Refused why; session = old }
 
+-- a card that is taken
+abbrev pub taken : List Net → Loaded
+taken c = record { answer = Done (length c); session = sessionOf c }
+
 -- a card whose wiring passes replaces the old one, and a count is handed back
 abbrev pub concluded : Session → List Net → ℕ → Verdict → Loaded
 concluded old c count (Faulty why) = refusal old why

@@ -1,7 +1,7 @@
 -- What a line asks for. Assumes nothing.
 use mathlib.Core.Bool.{cond}
 use mathlib.Core.List.{List, [], _∷_}
-use Prim.Native.Nat.{ℕ, _≤_}
+use Prim.Native.Nat.{ℕ}
 use lib.Dec.{ltb}
 use lib.ListN.{length}
 use Rattle.text.specs.Text.{sameText}
@@ -117,17 +117,3 @@ asked (name ∷ a ∷ b ∷ c ∷ d ∷ e ∷ es) = Bad
 -- "a line to 140,000 bytes"; "A line that is none of these answers `?` and changes nothing."
 unfoldable pub commandOf : List ℕ → Command
 commandOf line = cond (ltb 140000 (length line)) Bad (asked (words line))
-
--- every room that a command asks for has at most 20,000 entries
-abbrev pub RoomsFit : Command → Type 0
-RoomsFit Bad = Unit
-RoomsFit Load = Unit
-RoomsFit Rest = Unit
-RoomsFit Vector = Unit
-RoomsFit Steps = Unit
-RoomsFit (History words befores flags) = (words ≤ 20000) × (befores ≤ 20000) × (flags ≤ 20000)
-RoomsFit (Steplist nets times) = (nets ≤ 20000) × (times ≤ 20000)
-RoomsFit (Records room) = room ≤ 20000
-RoomsFit (Net n) = Unit
-RoomsFit (Trace n t room) = room ≤ 20000
-RoomsFit (Bench k room) = room ≤ 20000

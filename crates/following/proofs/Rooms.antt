@@ -7,15 +7,14 @@ use Prim.Native.Nat.{ℕ, zero, suc, _+_, _-_, _*_, _/_, _%_, _≤_, _<_}
 use native.Mathlib.Omega.{arith}
 use lib.Dec.{lit<, lit≤}
 use lib.ListN.{length, getD, List·getD-eq-default}
+use Rattle.lists.specs.Places.{part, clear, area}
 use Rattle.lists.proofs.Bools.{and-make}
+use Rattle.lists.proofs.Places.{clear-at, clear-make, length-area, area-in, area-out, part-same, part-whole}
 use Rattle.records.specs.Bytes.{u16At}
 use Rattle.records.specs.Written.{Bytes}
-use Rattle.lists.specs.Places.{part, clear, area}
-use Rattle.keeping.specs.Kept.{lastRoom}
-use Rattle.making.specs.Made.{fitting}
-use Rattle.keeping.specs.Kept.{keptCard, keptRest, keptVector}
-use Rattle.lists.proofs.Places.{clear-at, clear-make, length-area, area-in, area-out, part-same, part-whole}
+use Rattle.keeping.specs.Kept.{lastRoom, keptCard, keptRest, keptVector}
 use Rattle.keeping.proofs.Bytes.{area-bytes, room-at, one-byte, zero-byte}
+use Rattle.making.specs.Made.{fitting}
 
 -- A card that was just loaded
 

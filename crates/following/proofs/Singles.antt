@@ -11,33 +11,31 @@ use native.Mathlib.Decide.{decLt}
 use lib.Dec.{ltb}
 use lib.ListN.{length, getD, List·getD-eq-default}
 use Rattle.lists.specs.Entries.{every}
+use Rattle.lists.specs.Places.{part, area}
 use Rattle.lists.proofs.Listed.{is-listed, listed-none, listed-more}
+use Rattle.lists.proofs.Places.{length-area, area-in, area-out}
 use Rattle.rule.specs.declared.Refusal.the-variants.{NotReady, NoRoom}
 use Rattle.rule.specs.declared.Answer.{Answer}
 use Rattle.rule.specs.declared.Answer.the-variants.{Done, Refused}
+use Rattle.inputs.specs.Inputs.{byteFits}
+use Rattle.inputs.specs.Allowed.{Vector}
 use Rattle.records.specs.Written.{Bytes}
 use Rattle.card.specs.declared.Session.{Session}
 use Rattle.card.proofs.Kept.{inputs-some}
 use Rattle.session.specs.Good.{Good}
 use Rattle.session.specs.Moves.{vectorOf}
-use Rattle.session.specs.Inputs.{byteFits}
-use Rattle.session.specs.Allowed.{Vector}
 use Rattle.session.proofs.Refusals.{vector-takes}
-use Rattle.host.specs.declared.Move.the-variants.{Vector as ByFields}
-use Rattle.lists.specs.Places.{part, area}
-use Rattle.keeping.specs.Kept.{lastRoom}
-use Rattle.making.specs.Made.{madeAgain}
 use Rattle.history.proofs.Histories.{Roomy, history-0, history-shows}
-use Rattle.host.specs.Calls.{packed, operated, leftBy, hostMove, hostHistory}
-use Rattle.keeping.specs.Kept.{keptVector}
-use Rattle.following.specs.Following.{Holding, Call, bytesAfter, sessionAfter, eachVector}
+use Rattle.keeping.specs.Kept.{lastRoom, keptVector}
+use Rattle.keeping.proofs.Bytes.{room-at, part-bytes}
+use Rattle.making.specs.Made.{madeAgain}
 use Rattle.many.specs.Many.{manyRun, manyJudged, keptMany}
-use Rattle.host.specs.Vectors.{manyDone, Shown, hostVectors}
-use Rattle.lists.proofs.Places.{length-area, area-in, area-out}
-use Rattle.keeping.proofs.Bytes.{room-at}
-use Rattle.keeping.proofs.Bytes.{part-bytes}
 use Rattle.many.proofs.Many.{turn-next, turn-fits, many-vector, many-length, many-asks, many-left, Left}
+use Rattle.host.specs.declared.Move.the-variants.{Vector as ByFields}
+use Rattle.host.specs.Calls.{packed, operated, leftBy, hostMove, hostHistory}
+use Rattle.host.specs.Vectors.{manyDone, ManyShown, hostVectors}
 use Rattle.host.proofs.Vectors.{vectors-done}
+use Rattle.following.specs.Following.{Holding, Call, bytesAfter, sessionAfter, eachVector}
 use Rattle.following.proofs.Following.{held-good, move-is, move-follows, history-follows}
 
 -- What a vector keeps, place by place
@@ -212,7 +210,7 @@ pub many-refused : (b vs room : List ℕ) → ¬ (hostVectors b vs room .answer 
 unfolding hostVectors
 many-refused b vs room x = go (ltb (length b) 5895) (madeAgain b .whole) (manyJudged (madeAgain b .session) vs (length room)) x
   where
-    kept : Answer → Shown
+    kept : Answer → ManyShown
     kept a = record { answer = packed a; bytes = b; words = room }
 
     go : (x y : Bool) (a : Answer) → ¬ (cond x (kept (Refused NoRoom)) (cond y (manyDone (madeAgain b .session) b vs room a) (kept (Refused NotReady))) .answer ≡ 0)

@@ -16,6 +16,7 @@ use Rattle.lists.proofs.Places.{clear-at, length-area, area-in, area-out, part-
 use Rattle.lists.proofs.Listed.{length-listed}
 use Rattle.rule.specs.Net.{Net}
 use Rattle.rule.specs.declared.Answer.the-variants.{Done}
+use Rattle.inputs.specs.Allowed.{Vector}
 use Rattle.records.specs.Bytes.{u16At}
 use Rattle.records.specs.Written.{Bytes}
 use Rattle.card.specs.declared.Session.{Session}
@@ -23,7 +24,6 @@ use Rattle.card.specs.Session.{none, sessionOf}
 use Rattle.keeping.specs.Kept.{lastRoom, keptCard, keptRest, keptVector}
 use Rattle.keeping.proofs.Bytes.{area-bytes, part-bytes, room-at, zero-byte}
 use Rattle.making.specs.Made.{fitting, madeAgain}
-use Rattle.session.specs.Allowed.{Vector}
 use Rattle.host.specs.declared.Move.{Move}
 use Rattle.host.specs.declared.Move.the-variants.{Load, Rest, Vector as ByFields}
 use Rattle.host.specs.Calls.{packed, operated, keptBy, leftBy, hostMove}

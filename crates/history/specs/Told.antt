@@ -5,6 +5,7 @@ use mathlib.Core.List.{List}
 use Prim.Native.Nat.{ℕ}
 use lib.Dec.{leb}
 use lib.ListN.{length}
+use Rattle.lists.specs.Filled.{filled}
 use Rattle.word.specs.Word.{bit, val}
 use Rattle.rule.specs.Flag.{flagOf}
 use Rattle.rule.specs.declared.Refusal.the-variants.{NotReady, NoRoom}
@@ -12,7 +13,6 @@ use Rattle.rule.specs.declared.Answer.{Answer}
 use Rattle.rule.specs.declared.Answer.the-variants.{Done, Refused}
 use Rattle.card.specs.declared.Session.{Session}
 use Rattle.card.specs.Session.{wordAt, beforeAt}
-use Rattle.history.specs.Filled.{filled}
 
 -- what a history hands back, and the three lent slices after it
 pub record Told : Type 0 where

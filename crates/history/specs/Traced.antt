@@ -4,6 +4,7 @@ use mathlib.Core.List.{List}
 use Prim.Native.Nat.{ℕ, _+_}
 use lib.Dec.{leb, ltb}
 use lib.ListN.{length, getD}
+use Rattle.lists.specs.Filled.{filled}
 use Rattle.word.specs.Word.{bit}
 use Rattle.rule.specs.Net.{atPin}
 use Rattle.rule.specs.Flag.{changedAt}
@@ -13,7 +14,6 @@ use Rattle.rule.specs.declared.Answer.{Answer}
 use Rattle.rule.specs.declared.Answer.the-variants.{Done, Refused}
 use Rattle.card.specs.Session.{cardOf, wordAt, beforeAt}
 use Rattle.card.specs.declared.Session.{Session}
-use Rattle.history.specs.Filled.{filled}
 
 -- whether what a pin names changed at time t, by the nets' before values and words; an open pin never does
 abbrev pub changedBy : (ℕ → Bool) → (ℕ → ℕ) → ℕ → ℕ → Bool

@@ -14,10 +14,10 @@ use Rattle.session.specs.declared.Moved.{Moved}
 use Rattle.session.specs.Moves.{restOf, vectorOf}
 use Rattle.history.specs.Told.{historyOf}
 use Rattle.steps.specs.Vector.{stepsVectorOf}
-use Rattle.host.specs.declared.Move.{Move}
-use Rattle.host.specs.declared.Move.the-variants.{Load, Rest, Vector, Steps}
 use Rattle.keeping.specs.Kept.{keptCard, keptRest, keptVector}
 use Rattle.making.specs.Made.{madeAgain}
+use Rattle.host.specs.declared.Move.{Move}
+use Rattle.host.specs.declared.Move.the-variants.{Load, Rest, Vector, Steps}
 
 -- an answer as one number: the paper's number, and 256 times the count. "With 0 comes a count." No count is over 4,096 (`packed-plain`)
 unfoldable pub packed : Answer → ℕ

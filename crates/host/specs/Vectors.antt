@@ -12,19 +12,19 @@ use Rattle.making.specs.Made.{madeAgain}
 use Rattle.many.specs.Many.{manyRun, manyJudged, keptMany}
 use Rattle.host.specs.Calls.{packed}
 
-pub record Shown : Type 0 where
+pub record ManyShown : Type 0 where
   pub answer : ℕ
   pub bytes : List ℕ
   pub words : List ℕ
 
 -- all of them, or none
-abbrev pub manyDone : Session → List ℕ → List ℕ → List ℕ → Answer → Shown
+abbrev pub manyDone : Session → List ℕ → List ℕ → List ℕ → Answer → ManyShown
 manyDone s b vs room (Refused why) = record { answer = packed (Refused why); bytes = b; words = room }
 manyDone s b vs room (Done k) = record { answer = 0; bytes = keptMany b vs (s .inputs) k; words = manyRun s vs (s .inputs) k room .words }
 
-unfoldable pub hostVectors : List ℕ → List ℕ → List ℕ → Shown
+unfoldable pub hostVectors : List ℕ → List ℕ → List ℕ → ManyShown
 hostVectors b vs room =
     let m = madeAgain b in
-    let kept : Answer → Shown = λ a. record { answer = packed a; bytes = b; words = room } in
+    let kept : Answer → ManyShown = λ a. record { answer = packed a; bytes = b; words = room } in
     cond (ltb (length b) 5895) (kept (Refused NoRoom))
     (cond (m .whole) (manyDone (m .session) b vs room (manyJudged (m .session) vs (length room))) (kept (Refused NotReady)))

@@ -11,8 +11,7 @@ ghost use mathlib.Core.Path.{_≡_};
 ghost use Prim.Native.Nat.{_≤_};
 ghost use lib.ListN.{length, getD};
 ghost use Rattle.lists.specs.Places.{clear, area};
-ghost use Rattle.keeping.specs.Kept.{lastRoom};
-ghost use Rattle.keeping.specs.Kept.{keptCard, keptRest, keptVector};
+ghost use Rattle.keeping.specs.Kept.{lastRoom, keptCard, keptRest, keptVector};
 
 // How many bytes a session takes.
 pub const SESSION: usize = 5895;

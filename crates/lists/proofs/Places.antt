@@ -11,10 +11,10 @@ use lib.Seq.{getD-take, getD-drop, length-take-le}
 use borrow.Author.Tests.{eqb-true, eq-eqb, lt-ltb, le-ltb, le-leb, lt-leb, ltb-true, ltb-false}
 use Rattle.lists.specs.Entries.{from}
 use Rattle.lists.specs.Listed.{listed}
+use Rattle.lists.specs.Places.{part, clear, area}
 use Rattle.lists.proofs.Tests.{every-at, every-yes}
 use Rattle.lists.proofs.Joined.{in-from, out-from}
 use Rattle.lists.proofs.Listed.{length-listed, listed-at, listed-all, is-listed, listed-ext, listed-set, listed-self}
-use Rattle.lists.specs.Places.{part, clear, area}
 
 -- Zeros
 

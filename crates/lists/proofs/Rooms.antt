@@ -1,12 +1,16 @@
 -- Room that is filled from its front, with entries of any kind: nothing yet, one place more, and what stands in it then. Assumes nothing.
-use mathlib.Core.Path.{_≡_, sym, ap, _∙_}
-use mathlib.Core.List.{List}
-use Prim.Native.Nat.{ℕ, _+_, _≤_, _<_}
+use mathlib.Core.Path.{_≡_, refl, sym, ap, _∙_}
+use mathlib.Core.List.{List, [], _∷_}
+use Prim.Native.Nat.{ℕ, suc, _+_, _≤_, _<_}
+use native.Mathlib.Nat.{add-zero, zero-add}
+use native.Mathlib.Numerals.{add-one}
 use native.Mathlib.Omega.{arith}
 use native.Mathlib.Decide.{decLt}
 use lib.ListN.{length, getD, set, List·getD-eq-default}
+use lib.Seq.{sets}
 use borrow.Author.Tests.{lt-ltb, le-ltb}
 use Rattle.lists.specs.Listed.{listed, upto}
+use Rattle.lists.specs.Filled.{filled}
 use Rattle.lists.proofs.Listed.{length-listed, listed-at, listed-past, listed-ext, listed-self, upto-none, upto-more}
 
 -- d is what is read past a list's end
@@ -67,3 +71,44 @@ module _ {A : Type 0} (d : A) where
 
       pub copied-all : n ≤ i → room ≡ fills (λ e. getD from e d) n room₀
       copied-all l = let e : i ≡ n = omega (arith, c .0) in rw e at (c .1)
+
+-- Room for numbers
+
+module _ (f : ℕ → ℕ) (room : List ℕ) where
+  pub filled-none : room ≡ filled f 0 room
+  filled-none = fills-none 0 f room
+
+  pub filled-length : (n : ℕ) → length (filled f n room) ≡ length room
+  filled-length n = fills-length 0 f n room
+
+  -- what a loop that fills it keeps: as long as it was, and one place more at each turn
+  pub filled-keeps : (n : ℕ) (xs : List ℕ) → xs ≡ filled f n room → length xs ≡ length room
+  filled-keeps n xs e = ap length e ∙ filled-length n
+
+  pub filled-turn : (i v : ℕ) (xs : List ℕ) → xs ≡ filled f i room → v ≡ f i → i < length room → set xs i v ≡ filled f (i + 1) room
+  filled-turn i v xs e ev l = ap (λ w. set xs i w) ev ∙ fills-next 0 f i room xs e l
+
+  -- "one entry a net"
+  pub filled-at : (n i : ℕ) → i < n → n ≤ length room → getD (filled f n room) i 0 ≡ f i
+  filled-at n i l h = fills-at 0 f n i room h l
+
+  -- "Lent room past the part written keeps its contents."
+  pub filled-past : (n i : ℕ) → n ≤ i → getD (filled f n room) i 0 ≡ getD room i 0
+  filled-past n i l = fills-past 0 f n i room l
+
+  -- a list stored from a place on, where f has its entries
+  filled-sets : (ys : List ℕ) (at : ℕ) → ((i : ℕ) → i < length ys → getD ys i 0 ≡ f (at + i)) → at + length ys ≤ length room → sets (filled f at room) at ys ≡ filled f (at + length ys) room
+  filled-sets [] at h l = rw add-zero
+  filled-sets (y ∷ ys) at h l =
+      let e : y ≡ f at = rw add-zero at (h 0 (omega arith)) in
+      let x : at + suc (length ys) ≡ suc at + length ys = omega arith in
+      ap (λ zs. sets zs (suc at) ys) (rw add-one at (filled-turn at y (filled f at room) refl e (omega arith)))
+      ∙ filled-sets ys (suc at) (λ i b. let z : suc at + i ≡ at + suc i = omega arith in rw z (h (suc i) (omega arith))) (omega arith)
+      ∙ ap (λ k. filled f k room) (sym x)
+
+-- a list stored from the front
+pub filled-list : (ys room : List ℕ) → length ys ≤ length room → sets room 0 ys ≡ filled (λ i. getD ys i 0) (length ys) room
+filled-list ys room l =
+    ap (λ zs. sets zs 0 ys) (filled-none (λ i. getD ys i 0) room)
+    ∙ filled-sets (λ i. getD ys i 0) room ys 0 (λ i b. rw zero-add) (omega arith)
+    ∙ rw zero-add

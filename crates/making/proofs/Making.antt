@@ -7,6 +7,7 @@ use native.Mathlib.Omega.{arith}
 use lib.Dec.{eqb, ltb}
 use lib.ListN.{length, getD}
 use borrow.Author.Tests.{ne-eqb, lt-ltb, le-ltb}
+use Rattle.lists.specs.Places.{part, clear}
 use Rattle.word.proofs.Sets.{count-le}
 use Rattle.rule.specs.Net.{Net, netAt}
 use Rattle.rule.specs.declared.Refusal.{Refusal}
@@ -19,13 +20,12 @@ use Rattle.card.specs.Session.{none, isInput, inputsOf, sessionOf}
 use Rattle.card.specs.Load.{loadOf}
 use Rattle.card.specs.Allowed.{Accepted}
 use Rattle.card.proofs.Verdicts.{load-taken}
-use Rattle.keeping.proofs.Bytes.{part-bytes}
 use Rattle.session.specs.Good.{Good}
-use Rattle.session.proofs.Kept.{none-good, load-good, rest-good, vector-good}
 use Rattle.session.specs.declared.Moved.{Moved}
 use Rattle.session.specs.Moves.{restOf, vectorOf}
+use Rattle.session.proofs.Kept.{none-good, load-good, rest-good, vector-good}
+use Rattle.keeping.proofs.Bytes.{part-bytes}
 use Rattle.making.specs.declared.Made.{Made}
-use Rattle.lists.specs.Places.{part, clear}
 use Rattle.making.specs.Made.{broken, done, held, madeBy, fitting, madePlain, madeRested, madeMoved, madeCard, madeLoaded, madeAgain}
 
 pub by-refused : (m : Moved) (why : Refusal) → m .answer ≡ Refused why → broken ≡ madeBy m

@@ -4,6 +4,7 @@ use mathlib.Core.List.{List}
 use Prim.Native.Nat.{ℕ, _+_}
 use lib.Dec.{eqb, ltb}
 use lib.ListN.{getD}
+use Rattle.lists.specs.Places.{part, clear}
 use Rattle.rule.specs.declared.Answer.{Answer}
 use Rattle.rule.specs.declared.Answer.the-variants.{Done, Refused}
 use Rattle.records.specs.Bytes.{u16At}
@@ -13,7 +14,6 @@ use Rattle.card.specs.Load.{loadOf}
 use Rattle.session.specs.declared.Moved.{Moved}
 use Rattle.session.specs.Moves.{restOf, vectorOf}
 use Rattle.making.specs.declared.Made.{Made}
-use Rattle.lists.specs.Places.{part, clear}
 
 -- bytes that no call left
 unfoldable pub broken : Made

@@ -10,24 +10,24 @@ use lib.ListN.{length, getD}
 use borrow.Author.Tests.{eq-eqb, ne-eqb, lt-leb, le-leb, leb-true, ltb-true}
 use Rattle.lists.specs.Entries.{_∈_, every}
 use Rattle.lists.specs.Listed.{listed}
+use Rattle.lists.specs.Places.{part, area}
 use Rattle.lists.proofs.Tests.{every-at}
 use Rattle.lists.proofs.Order.{at-in}
 use Rattle.lists.proofs.Listed.{length-listed, out-listed}
+use Rattle.lists.proofs.Places.{length-area, part-listed}
 use Rattle.rule.specs.declared.Refusal.the-variants.{NotReady, VectorLength, VectorByte, NoRoom}
 use Rattle.rule.specs.declared.Answer.the-variants.{Done, Refused}
+use Rattle.inputs.specs.Allowed.{byteLimit, Vector}
+use Rattle.inputs.specs.Inputs.{byteFits, given}
+use Rattle.fields.specs.Fields.{advanced}
 use Rattle.card.specs.declared.Session.{Session}
 use Rattle.card.specs.Session.{resting}
 use Rattle.session.specs.Good.{Good, histories}
-use Rattle.session.specs.Allowed.{Vector}
-use Rattle.session.specs.Inputs.{byteFits, given}
-use Rattle.session.specs.Fields.{advanced}
 use Rattle.session.specs.Moves.{movedBy, vectorOf}
 use Rattle.session.proofs.Moving.{words-move}
 use Rattle.session.proofs.Kept.{vector-good}
 use Rattle.session.proofs.Refusals.{vector-takes}
-use Rattle.lists.specs.Places.{part, area}
 use Rattle.many.specs.Many.{manyRun, manyJudged, keptAt, keptMany}
-use Rattle.lists.proofs.Places.{length-area, part-listed}
 
 pub turn-next : (j n : ℕ) → j * n + n ≡ (j + 1) * n
 turn-next j n = let e : j + 1 ≡ suc j = omega arith in sym (ap (λ k. k * n) e ∙ suc-mul j n)
@@ -67,11 +67,11 @@ many-vector vs n j fits l = record { size = ap length is ∙ length-listed byte 
     is : part vs (j * n) n ≡ listed byte n
     is = part-listed vs (j * n) n l
 
-    bits : (b : ℕ) → b ∈ part vs (j * n) n → b < 2
+    bits : (b : ℕ) → b ∈ part vs (j * n) n → b < byteLimit
     bits b m =
         let o = out-listed byte n b (subst (λ xs. b ∈ xs) is m) in
         let i = o .0 in
-        let low = ltb-true (byte i) 2 (every-at byteFits vs fits (byte i) (at-in vs (j * n + i) 0 (omega (arith, o .1)))) in
+        let low = ltb-true (byte i) byteLimit (every-at byteFits vs fits (byte i) (at-in vs (j * n + i) 0 (omega (arith, o .1)))) in
         omega (arith, o .2, low)
 
 -- Many vectors that fit, on a rested session: it keeps its card, and the words alone go from one vector to the next

@@ -5,13 +5,13 @@ use Prim.Native.Nat.{ℕ, zero, suc, _+_, _*_, _/_, _%_}
 use lib.Dec.{eqb, leb}
 use lib.ListN.{length}
 use Rattle.lists.specs.Entries.{every}
+use Rattle.lists.specs.Places.{part, area}
 use Rattle.rule.specs.declared.Refusal.the-variants.{NotReady, VectorLength, VectorByte, NoRoom}
 use Rattle.rule.specs.declared.Answer.{Answer}
 use Rattle.rule.specs.declared.Answer.the-variants.{Done, Refused}
+use Rattle.inputs.specs.Inputs.{byteFits}
 use Rattle.card.specs.declared.Session.{Session}
-use Rattle.session.specs.Inputs.{byteFits}
 use Rattle.session.specs.Moves.{vectorOf}
-use Rattle.lists.specs.Places.{part, area}
 use Rattle.keeping.specs.Kept.{keptVector}
 
 -- a session, and lent room for words

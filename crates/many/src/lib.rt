@@ -4,9 +4,9 @@ ghost use mathlib.Core.Bool.{true};
 ghost use Prim.Native.Nat.{_+_, _*_, _≤_};
 ghost use lib.ListN.{length};
 ghost use Rattle.lists.specs.Entries.{every};
-ghost use Rattle.session.specs.Good.{Good};
-ghost use Rattle.session.specs.Inputs.{byteFits};
 ghost use Rattle.lists.specs.Places.{area};
+ghost use Rattle.inputs.specs.Inputs.{byteFits};
+ghost use Rattle.session.specs.Good.{Good};
 ghost use Rattle.many.specs.Many.{manyRun, manyJudged, keptAt, keptMany};
 use card::Session;
 use rule::Answer;
@@ -39,7 +39,7 @@ pub fn run_many(s: Session, vectors: &[u8], k: usize, room: &mut [u64])
     let mut from: usize = 0;
     let mut at: usize = 0;
     while done < k {
-        session::advance(
+        fields::advance(
             &mut words,
             &s.kinds,
             &s.types,
@@ -70,7 +70,7 @@ pub fn judge_many(s: Session, vectors: &[u8], room: usize) -> Answer
     if vectors.len() % n != 0 {
         return Answer::Refused(Refusal::VectorLength);
     }
-    if !session::bytes_fit(vectors) {
+    if !inputs::bytes_fit(vectors) {
         return Answer::Refused(Refusal::VectorByte);
     }
     let k = vectors.len() / n;

@@ -23,6 +23,9 @@ use Rattle.rule.proofs.Nets.{not-open, gate-listed}
 use Rattle.rule.proofs.GateOrders.{out-order, order-once}
 use Rattle.wiring.specs.Layout.{Fits, kindOf, typeOf, kindsOf, typesOf}
 use Rattle.wiring.proofs.Layouts.{count-at, kind-at, kind-past, type-at}
+use Rattle.inputs.specs.Inputs.{isInputKind, rank, given}
+use Rattle.inputs.proofs.Vectors.{given-other}
+use Rattle.fields.specs.Fields.{Gates, topsOf, passed, inputsPut, advanced, startAt, constantAt}
 use Rattle.records.proofs.Heads.{type-single}
 use Rattle.card.specs.declared.Session.{Session}
 use Rattle.card.specs.Session.{cardOf, isInput}
@@ -30,9 +33,7 @@ use Rattle.card.specs.Held.{HasCard}
 use Rattle.card.proofs.Reading.{inputs-laid, inputs-all-counted}
 use Rattle.card.proofs.Kept.{inputs-are, kinds-are, types-are, counts-are, places-are, card-fits, order-back, order-fits}
 use Rattle.session.specs.Good.{histories}
-use Rattle.session.specs.Inputs.{isInputKind, rank, given, givenTo}
-use Rattle.session.specs.Fields.{Gates, topsOf, passed, inputsPut, advanced, startAt, constantAt}
-use Rattle.session.proofs.Vectors.{given-other}
+use Rattle.session.specs.Moves.{givenTo}
 use Rattle.session.proofs.States.{net-past}
 use Rattle.session.proofs.Histories.{pass-histories, flat-still, flat-ends, put-still, put-ends}
 

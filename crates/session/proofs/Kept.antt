@@ -6,6 +6,7 @@ use Prim.Native.Nat.{ℕ}
 use native.Mathlib.Omega.{arith}
 use Rattle.lists.specs.Listed.{listed}
 use Rattle.rule.specs.declared.Answer.the-variants.{Done}
+use Rattle.inputs.specs.Inputs.{given}
 use Rattle.records.specs.Written.{Bytes}
 use Rattle.card.specs.declared.Session.{Session}
 use Rattle.card.specs.declared.Loaded.{Loaded}
@@ -16,7 +17,6 @@ use Rattle.card.proofs.Kept.{none-carded}
 use Rattle.card.proofs.Verdicts.{Ruling as LoadRuling, refuses as load-refuses, takes as load-takes, ruled as load-ruled, load-carded}
 use Rattle.session.specs.declared.Moved.{Moved}
 use Rattle.session.specs.Good.{histories, Rested, Good}
-use Rattle.session.specs.Inputs.{given}
 use Rattle.session.specs.Moves.{ends, movedBy, vectorOf, settled, restedBy, restOf}
 use Rattle.session.proofs.Moving.{ends-calm}
 use Rattle.session.proofs.Settling.{settled-rests, flat-histories}

@@ -1,5 +1,3 @@
-pub mod Vectors
-pub mod Fields
 pub mod States
 pub mod Histories
 pub mod Held

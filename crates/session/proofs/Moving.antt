@@ -14,13 +14,13 @@ use Rattle.rule.specs.Net.{Net, constant, netAt}
 use Rattle.rule.specs.Rule.{value, AtRest}
 use Rattle.rule.proofs.Values.{constant-is}
 use Rattle.rule.proofs.Rests.{ends-at-rest}
+use Rattle.inputs.specs.Inputs.{given}
+use Rattle.fields.specs.Fields.{topsOf, passed, advanced, startAt}
 use Rattle.card.specs.declared.Session.{Session}
 use Rattle.card.specs.Session.{cardOf, wordAt, resting}
 use Rattle.card.specs.Held.{HasCard}
 use Rattle.card.proofs.Kept.{card-fits, card-level}
 use Rattle.session.specs.Good.{histories, Rested}
-use Rattle.session.specs.Inputs.{given}
-use Rattle.session.specs.Fields.{topsOf, passed, advanced, startAt}
 use Rattle.session.specs.Moves.{ends, movedBy}
 use Rattle.session.proofs.States.{rest-same}
 use Rattle.session.proofs.Held.{session-pass, advance-pass}

@@ -15,11 +15,11 @@ use Rattle.rule.specs.declared.Refusal.the-variants.{NotReady, VectorLength, Ve
 use Rattle.rule.specs.declared.Answer.the-variants.{Done, Refused}
 use Rattle.wiring.specs.declared.Verdict.{Verdict}
 use Rattle.wiring.specs.declared.Verdict.the-variants.{Refused as Faulty, Passed}
+use Rattle.inputs.specs.Inputs.{byteFits, given, vectorFits}
+use Rattle.inputs.specs.Allowed.{byteLimit, Vector, Gets, gets-12, gets-10, gets-11}
 use Rattle.card.specs.declared.Session.{Session}
 use Rattle.session.specs.declared.Moved.{Moved}
-use Rattle.session.specs.Inputs.{byteFits, given, vectorFits}
 use Rattle.session.specs.Moves.{refusedMove, moving, movedBy, vectorOf, restedBy, restOf}
-use Rattle.session.specs.Allowed.{byteLimit, Vector, Gets, gets-12, gets-10, gets-11}
 
 -- Vectors that fit
 

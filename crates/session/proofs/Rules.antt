@@ -15,14 +15,14 @@ use Rattle.rule.specs.Level.{level}
 use Rattle.rule.specs.Flag.{changedAt}
 use Rattle.rule.proofs.Values.{change-has-chain}
 use Rattle.rule.proofs.Rests.{settles-at-level, rest-unique}
+use Rattle.inputs.specs.Inputs.{given}
+use Rattle.inputs.specs.Allowed.{Vector}
 use Rattle.card.specs.declared.Session.{Session}
 use Rattle.card.specs.Session.{cardOf, wordAt, beforeAt}
 use Rattle.card.specs.Held.{HasCard}
 use Rattle.card.proofs.Kept.{nets-are, card-fits}
 use Rattle.session.specs.Good.{Good}
-use Rattle.session.specs.Inputs.{given}
 use Rattle.session.specs.Moves.{ends, movedBy, vectorOf, settled, restedBy, restOf}
-use Rattle.session.specs.Allowed.{Vector}
 use Rattle.session.proofs.States.{rest-state-same}
 use Rattle.session.proofs.Moving.{history-at, ends-calm}
 use Rattle.session.proofs.Settling.{settled-rests}

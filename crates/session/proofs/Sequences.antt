@@ -14,14 +14,14 @@ use Rattle.rule.specs.Rule.{value, Rest}
 use Rattle.rule.specs.declared.Answer.the-variants.{Done}
 use Rattle.rule.proofs.Nets.{gate-listed}
 use Rattle.rule.proofs.Values.{value-same}
+use Rattle.inputs.specs.Inputs.{given}
+use Rattle.inputs.specs.Allowed.{Vector}
 use Rattle.card.specs.declared.Session.{Session}
 use Rattle.card.specs.Session.{cardOf, wordAt, beforeAt}
 use Rattle.card.specs.Held.{HasCard}
 use Rattle.card.proofs.Kept.{nets-are, card-fits}
 use Rattle.session.specs.Good.{Good}
-use Rattle.session.specs.Inputs.{given, givenTo}
-use Rattle.session.specs.Moves.{ends, movedBy, vectorOf, restedBy, restOf}
-use Rattle.session.specs.Allowed.{Vector}
+use Rattle.session.specs.Moves.{givenTo, ends, movedBy, vectorOf, restedBy, restOf}
 use Rattle.session.specs.Sequence.{after, stateAfter}
 use Rattle.session.proofs.Held.{given-card}
 use Rattle.session.proofs.Refusals.{rest-takes, vector-takes}

@@ -18,14 +18,13 @@ use Rattle.rule.specs.Steps.{gateOrder, netSteps, stepList}
 use Rattle.rule.specs.declared.Answer.the-variants.{Done}
 use Rattle.wiring.specs.declared.Verdict.the-variants.{Passed}
 use Rattle.wiring.specs.Wired.{pinsFit, mostBack, wiredOf}
+use Rattle.inputs.specs.Inputs.{given}
 use Rattle.records.specs.Written.{Bytes}
 use Rattle.records.proofs.Example.{exampleBytes, exampleCard, example-read}
 use Rattle.card.specs.declared.Session.{Session}
 use Rattle.card.specs.Session.{none, inputsOf, sessionOf}
-use Rattle.card.specs.Load.{concluded, judged, loadMeant, loadOf}
-use Rattle.card.proofs.Verdicts.{taken}
+use Rattle.card.specs.Load.{concluded, judged, loadMeant, loadOf, taken}
 use Rattle.session.specs.Good.{Good}
-use Rattle.session.specs.Inputs.{given}
 use Rattle.session.specs.Moves.{movedBy, vectorOf, restedBy, restOf}
 use Rattle.session.proofs.Refusals.{fits-vector, rest-takes, vector-takes}
 use Rattle.session.proofs.Kept.{none-good, load-good, rest-good, vector-good}

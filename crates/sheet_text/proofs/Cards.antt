@@ -7,6 +7,7 @@ use native.Mathlib.Omega.{arith}
 use lib.ListN.{length, getD, replicate, length-replicate}
 use Rattle.lists.specs.Entries.{each, from}
 use Rattle.lists.proofs.Joined.{out-from, each-ext}
+use Rattle.lists.proofs.Rooms.{filled-at}
 use Rattle.word.specs.Word.{val}
 use Rattle.rule.specs.Net.{Net}
 use Rattle.rule.specs.Level.{depth}
@@ -16,7 +17,6 @@ use Rattle.card.specs.Session.{cardOf, wordAt, beforeAt}
 use Rattle.card.specs.Held.{HasCard}
 use Rattle.card.proofs.Kept.{few}
 use Rattle.history.specs.Told.{Told, beforeByte, flagAt, historyOf}
-use Rattle.history.proofs.Fills.{fill-at}
 use Rattle.history.proofs.Histories.{written, gives-0}
 use Rattle.sheet_text.specs.Lines.{netLine, historyLine}
 
@@ -42,9 +42,9 @@ module _ (s : Session) (h : HasCard s) where
       unfolding historyLine
       line-is n l =
           let b : getD bs n 0 ≡ val (beforeAt s n) = ap (λ x. getD (x .befores) n 0) filled-as
-          ∙ fill-at (beforeByte s) none (s .nets) n l roomy in
-          let w : getD ws n 0 ≡ wordAt s n = ap (λ x. getD (x .words) n 0) filled-as ∙ fill-at (wordAt s) none (s .nets) n l roomy in
-          let f : getD fs n 0 ≡ flagAt s n = ap (λ x. getD (x .flags) n 0) filled-as ∙ fill-at (flagAt s) none (s .nets) n l roomy in
+          ∙ filled-at (beforeByte s) none (s .nets) n l roomy in
+          let w : getD ws n 0 ≡ wordAt s n = ap (λ x. getD (x .words) n 0) filled-as ∙ filled-at (wordAt s) none (s .nets) n l roomy in
+          let f : getD fs n 0 ≡ flagAt s n = ap (λ x. getD (x .flags) n 0) filled-as ∙ filled-at (flagAt s) none (s .nets) n l roomy in
           ap₂ (λ x y. netLine (depth c) n x y (getD fs n 0)) b w ∙ ap (netLine (depth c) n (val (beforeAt s n)) (wordAt s n)) f
 
       pub lines-are : (d : ℕ) → d ≡ depth c

@@ -5,13 +5,13 @@ use Prim.Native.Nat.{ℕ}
 use Rattle.rule.specs.Steps.{stepList}
 use Rattle.rule.specs.declared.Refusal.{Refusal}
 use Rattle.rule.specs.declared.Answer.the-variants.{Refused}
+use Rattle.inputs.specs.Allowed.{Gets}
+use Rattle.inputs.specs.Inputs.{given}
 use Rattle.card.specs.declared.Session.{Session}
 use Rattle.card.specs.Session.{cardOf}
-use Rattle.session.specs.Allowed.{Gets}
-use Rattle.session.specs.Inputs.{given}
 use Rattle.session.specs.Moves.{refusedMove}
 use Rattle.session.proofs.Refusals.{gets-refused, refused-gets}
-use Rattle.steps.specs.Variables.{Ran}
+use Rattle.steps.specs.Runs.{Ran}
 use Rattle.steps.specs.Vector.{ranAlong, ranSession, stepsVectorOf}
 
 module _ (s : Session) (v : List ℕ) where

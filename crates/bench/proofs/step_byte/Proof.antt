@@ -5,7 +5,7 @@ use borrow.Author.Needs.{needs}
 use borrow.Author.Tests.{not-true, not-false}
 use Rattle.word.specs.Word.{bit}
 use Rattle.bench.specs.Bench.{notDone}
-use Rattle.bench.proofs.Marking.{byte-not, byte-done}
+use Rattle.bench.proofs.Bytes.{byte-not, byte-done}
 use Rattle.bench.proofs.step_byte.Statement.{statement}
 use Rattle.bench.proofs.step_byte.Tie as tie
 

@@ -2,15 +2,15 @@
 use mathlib.Core.Path.{_≡_, sym, ap, ap₂, subst, _∙_}
 use Prim.Native.Nat.{_≤_}
 use native.Mathlib.Omega.{arith}
+use Rattle.lists.specs.Places.{part}
+use Rattle.lists.proofs.Places.{part-of}
 use Rattle.records.specs.Written.{Bytes}
 use Rattle.card.specs.Session.{none}
 use Rattle.card.specs.Load.{loadOf}
 use Rattle.session.specs.Good.{Good}
 use Rattle.session.proofs.Kept.{none-good, load-good}
-use Rattle.lists.specs.Places.{part}
-use Rattle.making.specs.Made.{madeCard}
-use Rattle.lists.proofs.Places.{part-of}
 use Rattle.keeping.proofs.Bytes.{part-bytes}
+use Rattle.making.specs.Made.{madeCard}
 use Rattle.making.proofs.Making.{few-inputs, loaded-refused, loaded-is}
 use borrow.Author.Needs.{needs}
 use Rattle.making.proofs.made_loaded.Statement.{statement}

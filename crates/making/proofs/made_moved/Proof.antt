@@ -1,11 +1,11 @@
 -- `making::made_moved` meets its contract. Assumes nothing.
 use mathlib.Core.Path.{sym, ap, subst, _∙_}
 use borrow.Author.Tests.{not-true, not-false}
+use Rattle.lists.proofs.Places.{part-of}
 use Rattle.session.specs.Good.{Good}
 use Rattle.session.specs.Moves.{restOf, vectorOf}
 use Rattle.session.proofs.Kept.{rest-good}
 use Rattle.making.specs.Made.{madeBy}
-use Rattle.lists.proofs.Places.{part-of}
 use Rattle.making.proofs.Making.{moved-not, moved-refused, moved-is}
 use borrow.Author.Needs.{needs}
 use Rattle.making.proofs.made_moved.Statement.{statement}

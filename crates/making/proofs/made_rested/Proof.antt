@@ -1,9 +1,9 @@
 -- `making::made_rested` meets its contract. Assumes nothing.
 use mathlib.Core.Path.{sym, ap, _∙_}
 use borrow.Author.Tests.{not-true, not-false}
+use Rattle.lists.proofs.Places.{part-of}
 use Rattle.session.specs.Moves.{restOf}
 use Rattle.making.specs.Made.{madeBy}
-use Rattle.lists.proofs.Places.{part-of}
 use Rattle.making.proofs.Making.{rested-not, rested-is}
 use borrow.Author.Needs.{needs}
 use Rattle.making.proofs.made_rested.Statement.{statement}

@@ -1,8 +1,8 @@
 -- `many::keep_at` meets its contract. Assumes nothing.
 use mathlib.Core.Path.{ap, _∙_}
 use Prim.Native.Nat.{_*_}
-use Rattle.keeping.specs.Kept.{keptVector}
 use Rattle.lists.proofs.Places.{part-of}
+use Rattle.keeping.specs.Kept.{keptVector}
 use borrow.Author.Needs.{needs}
 use Rattle.many.proofs.keep_at.Statement.{statement}
 use Rattle.many.proofs.keep_at.Tie as tie

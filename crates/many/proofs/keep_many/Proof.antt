@@ -33,7 +33,7 @@ keep-at-requires-2 : tie.Need-keep-at-requires-2
 keep-at-requires-2 c κs =
     let t = c .before in
     let start = t .before .before .before .before in
-    (start .pre .0, turn-fits (start .args .k - 2) (start .args .k) (start .args .n) _ (omega (arith, t .before .if1 .left)) (start .pre .1))
+    (start .pre .0, turn-fits _ (start .args .k) (start .args .n) _ (omega (arith, t .before .if1 .left)) (start .pre .1))
 
 sub-keep-at-2 : tie.Need-sub-keep-at-2
 sub-keep-at-2 c = search needs

@@ -7,13 +7,13 @@ use native.Mathlib.Omega.{arith}
 use lib.ListN.{length, getD, take, drop}
 use borrow.Author.Needs.{needs}
 use Rattle.lists.specs.Listed.{listed}
+use Rattle.lists.specs.Places.{part, area}
+use Rattle.lists.proofs.Places.{part-of}
+use Rattle.fields.specs.Fields.{advanced}
 use Rattle.card.specs.Held.{HasCard}
 use Rattle.card.proofs.Kept.{card-wires, card-fitting}
-use Rattle.session.specs.Fields.{advanced}
 use Rattle.session.proofs.Held.{gates-fit, gates-once, inputs-ranked}
-use Rattle.lists.specs.Places.{part, area}
 use Rattle.many.specs.Many.{manyRun}
-use Rattle.lists.proofs.Places.{part-of}
 use Rattle.many.proofs.Many.{turn-next, turn-fits, many-more, many-length, many-vector, left-long, next-words}
 use Rattle.many.proofs.run_many.Statement.{statement}
 use Rattle.many.proofs.run_many.Tie as tie
