@@ -4,13 +4,15 @@ use mathlib.Core.Bool.{Bool, false, not, cond}
 use mathlib.Core.List.{List, map}
 use Prim.Native.Nat.{ℕ, zero, suc, _+_, _^_, _*_, _≤_, _<_}
 use native.Mathlib.Omega.{arith}
+use native.Mathlib.Decide.{ℕ-discrete}
+use native.Mathlib.Numerals.{add-one}
 use lib.Dec.{eqb}
-use lib.ListN.{length, getD, set, length-map}
+use lib.ListN.{length, getD, set, length-map, length-set}
+use lib.Seq.{getD-set-same, getD-set-other}
 use borrow.Author.Tests.{eq-eqb, ne-eqb, eqb-true}
-use Rattle.lists.specs.Listed.{listed, upto}
-use Rattle.lists.proofs.Listed.{listed-none, length-listed, listed-at, out-listed, is-listed, map-listed}
-use Rattle.lists.proofs.Fills.{put-rest}
-use Rattle.word.specs.Word.{bit, differ, wordOf, movedUp}
+use Rattle.lists.specs.Listed.{listed}
+use Rattle.lists.proofs.Listed.{listed-none, listed-at, out-listed, is-listed, map-listed}
+use Rattle.word.specs.Word.{bit, isOne, differ, wordOf, movedUp}
 use Rattle.word.proofs.Words.{is-word}
 use Rattle.gate.specs.Gate.{inverts, gate as gateFn}
 use Rattle.gate.specs.Pins.{byPins, ofPins}
@@ -22,9 +24,10 @@ use Rattle.rule.proofs.Runs.{run-leaves-others}
 use Rattle.wiring.specs.Layout.{pinsAt}
 use Rattle.wiring.specs.Wires.{Fitting}
 use Rattle.wiring.proofs.Passes.{pass-more}
-use Rattle.inputs.specs.Inputs.{isInputKind, rank, given}
-use Rattle.inputs.proofs.Vectors.{not-zero, rank-below, rank-up, given-input}
-use Rattle.fields.specs.Fields.{fieldOf, fieldAt, pinWord, topsOf, passed, inputsPut, constantAt}
+use Rattle.inputs.specs.Inputs.{isInputKind, rank, inputNets, given}
+use Rattle.inputs.proofs.Vectors.{not-zero, rank-below, given-input}
+use Rattle.inputs.proofs.Nets.{Ranked, net-at, net-there}
+use Rattle.fields.specs.Fields.{fieldOf, fieldAt, pinWord, topsOf, passed, netsPut, constantAt}
 
 -- the value at time t of the i-th pin of a gate; what the pins come to, pin by pin
 abbrev pub pin : List ℕ → List ℕ → ℕ → ℕ → ℕ → Bool
@@ -96,22 +99,83 @@ no-constant kind ty e = rw (ne-eqb kind 2 e)
 
 -- Inputs' words
 
--- what stands at a net where a vector's values are put into words
-abbrev pub putAt : List ℕ → List ℕ → List ℕ → ℕ → ℕ
-putAt kinds v words n = cond (isInputKind (getD kinds n 0)) (wordOf 64 (λ t. given kinds v n)) (getD words n 0)
+pub put-none : (nets v words : List ℕ) → words ≡ netsPut nets v 0 words
+unfolding netsPut
+put-none nets v words = refl
 
-pub length-put : (kinds v words : List ℕ) → length (inputsPut kinds v words) ≡ 256
-unfolding inputsPut
-length-put kinds v words = length-listed (putAt kinds v words) 256
+put-next : (nets v words : List ℕ) (j : ℕ) → set (netsPut nets v j words) (getD nets j 0) (wordOf 64 (λ t. isOne (getD v j 0))) ≡ netsPut nets v (suc j) words
+unfolding netsPut
+put-next nets v words j = refl
 
-module _ (kinds v words : List ℕ) where
-  pub put-input : (n j r : ℕ) → getD kinds n 0 ≡ 1 → j ≡ rank kinds n → r < 2 ^ 64 → ((t : ℕ) → t < 64 → bit r t ≡ not (eqb (getD v j 0) 0)) → r ≡ putAt kinds v words n
-  put-input n j r e q l h = rw (eq-eqb (getD kinds n 0) 1 e) (is-word 64 (λ t. given kinds v n) r l (λ t b. h t b ∙ given-input kinds v n j e q))
+-- one byte more
+pub put-more : (nets v words now : List ℕ) (j m r : ℕ) → m ≡ getD nets j 0 → r < 2 ^ 64 → ((t : ℕ) → t < 64 → bit r t ≡ not (eqb (getD v j 0) 0)) → now ≡ netsPut nets v j words
+    → set now m r ≡ netsPut nets v (j + 1) words
+put-more nets v words now j m r e l h q =
+    let w : r ≡ wordOf 64 (λ t. isOne (getD v j 0)) = is-word 64 (λ t. isOne (getD v j 0)) r l (λ t b. h t b ∙ not-zero (getD v j 0)) in
+    (λ i. set (q i) (e i) (w i)) ∙ put-next nets v words j ∙ ap (λ k. netsPut nets v k words) (sym (add-one j))
 
-  pub put-other : (n : ℕ) → ¬ (getD kinds n 0 ≡ 1) → getD words n 0 ≡ putAt kinds v words n
-  put-other n e = rw (ne-eqb (getD kinds n 0) 1 e)
+pub length-put : (nets v : List ℕ) (j : ℕ) (words : List ℕ) → length (netsPut nets v j words) ≡ length words
+unfolding netsPut
+length-put nets v zero words = refl
+length-put nets v (suc j) words = length-set (netsPut nets v j words) (getD nets j 0) _ ∙ length-put nets v j words
 
-  -- once as many inputs stand ahead of net n as there are, all are put
-  pub all-put : (n : ℕ) (now : List ℕ) → rank kinds n ≡ rank kinds 256 → now ≡ listed (upto (putAt kinds v words) (λ i. getD words i 0) n) 256 → now ≡ inputsPut kinds v words
+-- words in which the inputs have the values that a vector gives them, at every time
+unfoldable pub inputsPut : List ℕ → List ℕ → List ℕ → List ℕ
+inputsPut kinds v words = listed (λ n. cond (isInputKind (getD kinds n 0)) (wordOf 64 (λ t. given kinds v n)) (getD words n 0)) 256
+
+module _ (kinds v words : List ℕ) (long : length words ≡ 256) where
+  abbrev nets : List ℕ
+  nets = inputNets kinds 256
+
+  abbrev after : ℕ → List ℕ
+  after j = netsPut nets v j words
+
+  room : (j m : ℕ) → m < 256 → m < length (after j)
+  room j m l = omega (arith, l, length-put nets v j words, long)
+
+  -- an input whose byte was taken
+  put-in : (j m : ℕ) → j ≤ rank kinds 256 → m < 256 → getD kinds m 0 ≡ 1 → rank kinds m < j → getD (after j) m 0 ≡ wordOf 64 (λ t. isOne (getD v (rank kinds m) 0))
+  put-in zero m f l e b = absurd (omega arith)
+  put-in (suc j) m f l e b =
+      let before : rank kinds m < j → getD (after j) m 0 ≡ wordOf 64 (λ t. isOne (getD v (rank kinds m) 0)) = λ x. put-in j m (omega arith) l e x in
+      ap (λ xs. getD xs m 0) (sym (put-next nets v words j)) ∙ go (ℕ-discrete m (getD nets j 0)) before
+    where
+      here : Ranked kinds 256 j (getD nets j 0)
+      here = net-there kinds 256 j (omega arith) (omega arith)
+
+      go : Dec (m ≡ getD nets j 0) → (rank kinds m < j → getD (after j) m 0 ≡ wordOf 64 (λ t. isOne (getD v (rank kinds m) 0)))
+          → getD (set (after j) (getD nets j 0) (wordOf 64 (λ t. isOne (getD v j 0)))) m 0 ≡ wordOf 64 (λ t. isOne (getD v (rank kinds m) 0))
+      go (yes q) before =
+          let same : rank kinds m ≡ j = ap (rank kinds) q ∙ here .2 in
+          ap (λ k. getD (set (after j) (getD nets j 0) (wordOf 64 (λ t. isOne (getD v j 0)))) k 0) q
+          ∙ getD-set-same (after j) (getD nets j 0) _ 0 (room j (getD nets j 0) (here .0))
+          ∙ ap (λ k. wordOf 64 (λ t. isOne (getD v k 0))) (sym same)
+      go (no q) before =
+          let apart : ¬ (rank kinds m ≡ j) = λ s. q (sym (net-at kinds 256 m (omega arith) l e) ∙ ap (λ k. getD nets k 0) s) in
+          getD-set-other (after j) (getD nets j 0) m _ 0 q ∙ before (omega (arith, b, apart))
+
+  -- all others
+  put-out : (j m : ℕ) → j ≤ rank kinds 256 → m < 256 → ¬ (getD kinds m 0 ≡ 1) → getD (after j) m 0 ≡ getD words m 0
+  put-out zero m f l e = ap (λ xs. getD xs m 0) (sym (put-none nets v words))
+  put-out (suc j) m f l e =
+      let here = net-there kinds 256 j (omega arith) (omega arith) in
+      ap (λ xs. getD xs m 0) (sym (put-next nets v words j))
+      ∙ getD-set-other (after j) (getD nets j 0) m _ 0 (λ q. e (ap (λ k. getD kinds k 0) q ∙ here .1))
+      ∙ put-out j m (omega arith) l e
+
+  -- with all bytes of a vector, all inputs have their values and nothing else moves
+  pub nets-put : length v ≡ rank kinds 256 → netsPut (inputNets kinds 256) v (length v) words ≡ inputsPut kinds v words
   unfolding inputsPut
-  all-put n now e h = put-rest (putAt kinds v words) (λ i. getD words i 0) 256 n now h (λ m a b. put-other m (λ q. omega (arith, e, rank-up kinds n m a, rank-below kinds m 256 b q)))
+  nets-put size =
+      is-listed (λ n. cond (isInputKind (getD kinds n 0)) (wordOf 64 (λ t. given kinds v n)) (getD words n 0)) 256 0 (after (length v)) (length-put nets v (length v) words ∙ long)
+      (λ n l. at n l (ℕ-discrete (getD kinds n 0) 1))
+    where
+      given-is : (n : ℕ) → getD kinds n 0 ≡ 1 → isOne (getD v (rank kinds n) 0) ≡ given kinds v n
+      given-is n e = sym (not-zero (getD v (rank kinds n) 0)) ∙ given-input kinds v n (rank kinds n) e refl
+
+      at : (n : ℕ) → n < 256 → Dec (getD kinds n 0 ≡ 1)
+          → getD (after (length v)) n 0 ≡ cond (isInputKind (getD kinds n 0)) (wordOf 64 (λ t. given kinds v n)) (getD words n 0)
+      at n l (yes e) =
+          rw (eq-eqb (getD kinds n 0) 1 e)
+          (put-in (length v) n (omega (arith, size)) l e (omega (arith, size, rank-below kinds n 256 l e)) ∙ ap (λ b. wordOf 64 (λ t. b)) (given-is n e))
+      at n l (no e) = rw (ne-eqb (getD kinds n 0) 1 e) (put-out (length v) n (omega (arith, size)) l e)

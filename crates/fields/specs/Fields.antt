@@ -2,16 +2,16 @@
 use mathlib.Core.Path.{_≡_}
 use mathlib.Core.Bool.{Bool, false, cond}
 use mathlib.Core.List.{List, map}
-use Prim.Native.Nat.{ℕ, _<_}
+use Prim.Native.Nat.{ℕ, zero, suc, _<_}
 use lib.Dec.{eqb}
-use lib.ListN.{getD}
+use lib.ListN.{length, getD, set}
 use Rattle.lists.specs.Listed.{listed}
 use Rattle.word.specs.Word.{bit, isOne, wordOf, movedUp}
 use Rattle.gate.specs.Gate.{gate as gateFn}
 use Rattle.rule.specs.Net.{openValue, atPin}
 use Rattle.rule.specs.Run.{run}
 use Rattle.wiring.specs.Layout.{pinsAt}
-use Rattle.inputs.specs.Inputs.{isInputKind, given}
+use Rattle.inputs.specs.Inputs.{isInputKind}
 
 -- what a gate needs of the arrays
 pub record Gates (types counts : List ℕ) (g : ℕ) : Type 0 where
@@ -43,14 +43,15 @@ passed before types counts places words order = listed (run eqb (pinsAt counts p
 unfoldable pub startAt : List ℕ → List Bool → List Bool → ℕ → ℕ
 startAt kinds values before n = wordOf 64 (λ t. cond (isInputKind (getD kinds n 0)) (getD values n false) (getD before n false))
 
--- words in which the inputs have the values that a vector gives them, at every time
-unfoldable pub inputsPut : List ℕ → List ℕ → List ℕ → List ℕ
-inputsPut kinds v words = listed (λ n. cond (isInputKind (getD kinds n 0)) (wordOf 64 (λ t. given kinds v n)) (getD words n 0)) 256
+-- words in which the first j of some nets have a vector's values, a byte each, at every time
+unfoldable pub netsPut : List ℕ → List ℕ → ℕ → List ℕ → List ℕ
+netsPut nets v zero words = words
+netsPut nets v (suc j) words = set (netsPut nets v j words) (getD nets j 0) (wordOf 64 (λ t. isOne (getD v j 0)))
 
--- the words that a vector leaves of the last one's: the inputs' are put, and the gates' follow along their order
+-- the words that a vector leaves of the last one's: those of the nets that are inputs are put, and the gates' follow along their order
 abbrev pub advanced : List ℕ → List ℕ → List ℕ → List ℕ → List ℕ → List ℕ → List ℕ → List ℕ
-advanced kinds types counts places order words v =
-    let put = inputsPut kinds v words in
+advanced nets types counts places order words v =
+    let put = netsPut nets v (length v) words in
     passed (topsOf put) types counts places put order
 
 -- a constant's value; a net of another kind has none

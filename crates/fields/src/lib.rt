@@ -4,7 +4,6 @@ ghost use mathlib.Core.Bool.{false, cond};
 ghost use mathlib.Core.List.{map};
 ghost use Prim.Native.Nat.{ℕ, _<_, _≤_};
 ghost use lib.ListN.{length, getD};
-ghost use Rattle.lists.specs.Entries.{every};
 ghost use Rattle.lists.specs.Listed.{listed};
 ghost use Rattle.word.specs.Word.{bit, wordOf};
 ghost use Rattle.gate.specs.Gate.{controls};
@@ -12,8 +11,8 @@ ghost use Rattle.gate.specs.Pins.{byPins};
 ghost use Rattle.rule.specs.Net.{openValue};
 ghost use Rattle.wiring.specs.Layout.{pinsAt};
 ghost use Rattle.wiring.specs.Wires.{Wires, Fitting};
-ghost use Rattle.inputs.specs.Inputs.{isInputKind, rank};
-ghost use Rattle.fields.specs.Fields.{Gates, fieldOf, pinWord, topsOf, passed, inputsPut, advanced, startAt, constantAt};
+ghost use Rattle.inputs.specs.Inputs.{isInputKind};
+ghost use Rattle.fields.specs.Fields.{Gates, fieldOf, pinWord, topsOf, passed, netsPut, advanced, startAt, constantAt};
 
 // The word of an open pin: its value at every time.
 pub fn open_word() -> u64
@@ -106,26 +105,22 @@ pub fn pass<'a>(
     }
 }
 
-// A vector's values in the inputs' words, at every time: input j has byte j.
-pub fn put_inputs<'a>(words: &mut [u64; 256], kinds: &'a [u8; 256], v: &'a [u8])
-    requires { ⌜ (length (now v) ≡ rank (now kinds) 256) × (length (now words) ≡ 256) ⌝ }
-    ensures { λ r. ⌜ now (words .exit) ≡ inputsPut (now (kinds .entry)) (now (v .entry)) (now (words .entry)) ⌝ }
+// A vector's values in the inputs' words, at every time: the net of input j has byte j.
+pub fn put_inputs<'a>(words: &mut [u64; 256], inputs: &'a [u16; 256], v: &'a [u8])
+    requires { ⌜ (length (now v) ≤ 256) × ((j : ℕ) → getD (now inputs) j 0 < 256) ⌝ }
+    ensures { λ r. ⌜ now (words .exit) ≡ netsPut (now (inputs .entry)) (now (v .entry)) (length (now (v .entry))) (now (words .entry)) ⌝ }
 {
-    let mut n: usize = 0;
     let mut j: usize = 0;
     while j < v.len() {
-        if kinds[n] == 1 {
-            words[n] = word::spread(v[j] != 0);
-            j += 1;
-        }
-        n += 1;
+        words[wiring::wide16(inputs[j])] = word::spread(v[j] != 0);
+        j += 1;
     }
 }
 
 // The words that a vector leaves, of words that end in the before values.
 pub fn advance<'a>(
     words: &mut [u64; 256],
-    kinds: &'a [u8; 256],
+    inputs: &'a [u16; 256],
     types: &'a [u8; 256],
     counts: &'a [u8; 256],
     places: &'a [u16; 2048],
@@ -138,10 +133,10 @@ pub fn advance<'a>(
     requires { ⌜ Fitting (now counts) (now places) n ⌝ }
     requires { ⌜ (gates ≤ 256) × ((i : ℕ) → i < gates → Gates (now types) (now counts) (getD (now order) i 0)) ⌝ }
     requires { ⌜ ((i j : ℕ) → i < j → j < gates → ¬ (getD (now order) i 0 ≡ getD (now order) j 0)) ⌝ }
-    requires { ⌜ (length (now v) ≡ rank (now kinds) 256) × (length (now words) ≡ 256) ⌝ }
-    ensures { λ r. ⌜ now (words .exit) ≡ advanced (now (kinds .entry)) (now (types .entry)) (now (counts .entry)) (now (places .entry)) (listed (λ i. getD (now (order .entry)) i 0) gates) (now (words .entry)) (now (v .entry)) ⌝ }
+    requires { ⌜ (length (now v) ≤ 256) × ((j : ℕ) → getD (now inputs) j 0 < 256) × (length (now words) ≡ 256) ⌝ }
+    ensures { λ r. ⌜ now (words .exit) ≡ advanced (now (inputs .entry)) (now (types .entry)) (now (counts .entry)) (now (places .entry)) (listed (λ i. getD (now (order .entry)) i 0) gates) (now (words .entry)) (now (v .entry)) ⌝ }
 {
-    put_inputs(words, kinds, v);
+    put_inputs(words, inputs, v);
     pass(words, types, counts, places, n, order, gates);
 }
 

@@ -1,9 +1,9 @@
 -- A vector: "one byte an input", 0 or 1. Assumes nothing.
 use mathlib.Core.Bool.{Bool, false, cond}
 use mathlib.Core.List.{List}
-use Prim.Native.Nat.{ℕ}
+use Prim.Native.Nat.{ℕ, zero, suc}
 use lib.Dec.{eqb, ltb}
-use lib.ListN.{length, getD, replicate}
+use lib.ListN.{length, getD, set, replicate}
 use Rattle.lists.specs.Entries.{every}
 use Rattle.lists.specs.Listed.{listed}
 use Rattle.word.specs.Word.{isOne}
@@ -20,6 +20,11 @@ isInputKind kind = eqb kind 1
 -- how many inputs stand ahead of net n: the place of its byte in a vector
 unfoldable pub rank : List ℕ → ℕ → ℕ
 rank kinds n = count (λ m. isInputKind (getD kinds m 0)) n
+
+-- the inputs ahead of net n, in their order, at the front of 256 places
+unfoldable pub inputNets : List ℕ → ℕ → List ℕ
+inputNets kinds zero = replicate 256 0
+inputNets kinds (suc n) = cond (isInputKind (getD kinds n 0)) (set (inputNets kinds n) (rank kinds n) n) (inputNets kinds n)
 
 -- the value that a vector gives net n; only inputs are given any
 unfoldable pub given : List ℕ → List ℕ → ℕ → Bool

@@ -5,7 +5,7 @@ ghost use Prim.Native.Nat.{_<_};
 ghost use lib.ListN.{length};
 ghost use Rattle.lists.specs.Entries.{every};
 ghost use Rattle.lists.specs.Listed.{listed};
-ghost use Rattle.inputs.specs.Inputs.{byteFits, rank, given, inputsRead};
+ghost use Rattle.inputs.specs.Inputs.{byteFits, rank, inputNets, given, inputsRead};
 use rule::Refusal;
 use wiring::Verdict;
 
@@ -17,6 +17,23 @@ pub struct Inputs {
 
 // A vector byte is 0 or 1: it is below this.
 const BYTE_LIMIT: u8 = 2;
+
+// The nets that are inputs, in their order, at the front.
+pub fn input_nets<'a>(kinds: &'a [u8; 256]) -> [u16; 256]
+    ensures { λ r. ⌜ r ≡ inputNets (now (kinds .entry)) 256 ⌝ }
+{
+    let mut nets = [0u16; 256];
+    let mut j: usize = 0;
+    let mut n: usize = 0;
+    while n < 256 {
+        if kinds[n] == 1 {
+            nets[j] = n as u16;
+            j += 1;
+        }
+        n += 1;
+    }
+    nets
+}
 
 // Whether every byte is 0 or 1.
 pub fn bytes_fit(v: &[u8]) -> bool

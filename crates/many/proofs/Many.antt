@@ -18,12 +18,13 @@ use Rattle.lists.proofs.Places.{length-area, part-listed}
 use Rattle.rule.specs.declared.Refusal.the-variants.{NotReady, VectorLength, VectorByte, NoRoom}
 use Rattle.rule.specs.declared.Answer.the-variants.{Done, Refused}
 use Rattle.inputs.specs.Allowed.{byteLimit, Vector}
-use Rattle.inputs.specs.Inputs.{byteFits, given}
+use Rattle.inputs.specs.Inputs.{byteFits, inputNets, given}
 use Rattle.fields.specs.Fields.{advanced}
 use Rattle.card.specs.declared.Session.{Session}
 use Rattle.card.specs.Session.{resting}
 use Rattle.session.specs.Good.{Good, histories}
 use Rattle.session.specs.Moves.{movedBy, vectorOf}
+use Rattle.session.proofs.Held.{inputs-ranked}
 use Rattle.session.proofs.Moving.{words-move}
 use Rattle.session.proofs.Kept.{vector-good}
 use Rattle.session.proofs.Refusals.{vector-takes}
@@ -113,15 +114,15 @@ module _ (s : Session) (g : Good s) (r : s .rested ≡ true) (vs room : List ℕ
   left-long j l = let h = many-left j l in let held = h .good .rest (ap (λ x. x .rested) (h .same)) .1 in ap length (held .words-are) ∙ length-listed _ 256
 
   pub next-words : (j : ℕ) → j * s .inputs + s .inputs ≤ length vs
-      → advanced (s .kinds) (s .types) (s .counts) (s .places) (listed (λ i. getD (s .order) i 0) (s .gates)) (left j .words) (bytes j) ≡ vectorOf (left j) (bytes j) .session .words
+      → advanced (inputNets (s .kinds) 256) (s .types) (s .counts) (s .places) (listed (λ i. getD (s .order) i 0) (s .gates)) (left j .words) (bytes j) ≡ vectorOf (left j) (bytes j) .session .words
   next-words j l =
       let h = many-left j (omega (arith, l)) in
       let z = left j in
       let rested : z .rested ≡ true = ap (λ x. x .rested) (h .same) in
       let w′ : Vector (z .inputs) (bytes j) = subst (λ x. Vector (x .inputs) (bytes j)) (sym (h .same)) (many-vector vs (s .inputs) j fits l) in
       let held = h .good .rest rested in
-      sym (ap (λ x. advanced (x .kinds) (x .types) (x .counts) (x .places) (listed (λ i. getD (x .order) i 0) (x .gates)) (z .words) (bytes j)) (h .same))
-      ∙ words-move z (h .good .card (held .0)) (held .1) (bytes j)
+      sym (ap (λ x. advanced (inputNets (x .kinds) 256) (x .types) (x .counts) (x .places) (listed (λ i. getD (x .order) i 0) (x .gates)) (z .words) (bytes j)) (h .same))
+      ∙ words-move z (h .good .card (held .0)) (held .1) (bytes j) (w′ .size ∙ inputs-ranked z (h .good .card (held .0)))
       ∙ sym (ap (λ x. x .session .words) (vector-takes z (bytes j) rested w′))
 
 -- What is kept

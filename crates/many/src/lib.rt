@@ -34,6 +34,7 @@ pub fn run_many(s: Session, vectors: &[u8], k: usize, room: &mut [u64])
 {
     let n = s.inputs;
     let nets = s.nets;
+    let inputs = inputs::input_nets(&s.kinds);
     let mut words = s.words;
     let mut done: usize = 0;
     let mut from: usize = 0;
@@ -41,7 +42,7 @@ pub fn run_many(s: Session, vectors: &[u8], k: usize, room: &mut [u64])
     while done < k {
         fields::advance(
             &mut words,
-            &s.kinds,
+            &inputs,
             &s.types,
             &s.counts,
             &s.places,

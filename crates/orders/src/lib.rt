@@ -4,7 +4,6 @@ ghost use mathlib.Core.Bool.{true, false};
 ghost use Prim.Native.Nat.{ℕ, _<_, _≤_};
 ghost use lib.ListN.{length, getD, replicate};
 ghost use Rattle.lists.specs.Entries.{every};
-ghost use Rattle.word.specs.Word.{bit};
 ghost use Rattle.wiring.specs.Wires.{Wires, Fitting};
 ghost use Rattle.variables.specs.Variables.{readsIn};
 ghost use Rattle.orders.specs.Orders.{entriesFit};

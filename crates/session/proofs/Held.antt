@@ -23,9 +23,10 @@ use Rattle.rule.proofs.Nets.{not-open, gate-listed}
 use Rattle.rule.proofs.GateOrders.{out-order, order-once}
 use Rattle.wiring.specs.Layout.{Fits, kindOf, typeOf, kindsOf, typesOf}
 use Rattle.wiring.proofs.Layouts.{count-at, kind-at, kind-past, type-at}
-use Rattle.inputs.specs.Inputs.{isInputKind, rank, given}
+use Rattle.inputs.specs.Inputs.{isInputKind, rank, inputNets, given}
 use Rattle.inputs.proofs.Vectors.{given-other}
-use Rattle.fields.specs.Fields.{Gates, topsOf, passed, inputsPut, advanced, startAt, constantAt}
+use Rattle.fields.specs.Fields.{Gates, topsOf, passed, advanced, startAt, constantAt}
+use Rattle.fields.proofs.Fields.{inputsPut, nets-put}
 use Rattle.records.proofs.Heads.{type-single}
 use Rattle.card.specs.declared.Session.{Session}
 use Rattle.card.specs.Session.{cardOf, isInput}
@@ -132,14 +133,15 @@ module _ (s : Session) (h : HasCard s) where
         ∙ gates-pass flat (length-listed _ 256) (flat-still c old new fits values same fixed) (flat-ends c old new fits values same)
 
     -- from the last vector's words, where each constant has its value
-    pub advance-pass : (v words : List ℕ) → ((n : ℕ) (k : Bool) → n < 256 → netAt c n ≡ constant k → getD words n 0 ≡ wordOf 64 (λ t. k))
+    pub advance-pass : (v words : List ℕ) → length v ≡ rank (s .kinds) 256 → length words ≡ 256 → ((n : ℕ) (k : Bool) → n < 256 → netAt c n ≡ constant k → getD words n 0 ≡ wordOf 64 (λ t. k))
         → ((n : ℕ) → given (s .kinds) v n ≡ new n) → ((n : ℕ) → n < 256 → bit (getD words n 0) 63 ≡ old n)
-        → advanced (s .kinds) (s .types) (s .counts) (s .places) (listed (λ i. getD (s .order) i 0) (s .gates)) words v ≡ histories c old new
+        → advanced (inputNets (s .kinds) 256) (s .types) (s .counts) (s .places) (listed (λ i. getD (s .order) i 0) (s .gates)) words v ≡ histories c old new
     unfolding inputsPut
-    advance-pass v words fixed same ends =
+    advance-pass v words size long fixed same ends =
         let fits = card-fits s h .fits in
         let same′ : (n : ℕ) → given (kindsOf c) v n ≡ new n = λ n. ap (λ ks. given ks v n) (sym (kinds-are s h)) ∙ same n in
-        ap (λ ks. advanced ks (s .types) (s .counts) (s .places) (listed (λ i. getD (s .order) i 0) (s .gates)) words v) (kinds-are s h)
+        ap (λ ws. passed (topsOf ws) (s .types) (s .counts) (s .places) ws (listed (λ i. getD (s .order) i 0) (s .gates)))
+        (nets-put (s .kinds) v words long size ∙ ap (λ ks. inputsPut ks v words) (kinds-are s h))
         ∙ gates-pass (inputsPut (kindsOf c) v words) (length-listed _ 256) (put-still c old new fits v words same′ fixed)
         (λ n l e. put-ends c old new fits v words same′ n l e ∙ ends n l)
 

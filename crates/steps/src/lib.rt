@@ -1,7 +1,7 @@
 // Steps one after another, along the list or in any order, and a vector by steps.
 ghost use mathlib.Core.Path.{_≡_};
 ghost use mathlib.Core.Bool.{true, false};
-ghost use Prim.Native.Nat.{ℕ, _+_, _<_, _≤_};
+ghost use Prim.Native.Nat.{ℕ, _<_, _≤_};
 ghost use lib.ListN.{length, getD};
 ghost use Rattle.rule.specs.Steps.{stepList};
 ghost use Rattle.wiring.specs.Wires.{Wires, Fitting};

@@ -4,7 +4,6 @@ ghost use mathlib.Core.List.{map};
 ghost use mathlib.Core.Logic.{_⊎_};
 ghost use Prim.Native.Nat.{_+_, _<_};
 ghost use lib.ListN.{getD};
-ghost use Rattle.lists.specs.Filled.{filled};
 ghost use Rattle.gate.specs.Gate.{controls};
 ghost use Rattle.gate.specs.Pins.{byPins};
 ghost use Rattle.rule.specs.Net.{openPin};

@@ -8,12 +8,12 @@ use Rattle.fields.proofs.advance.Statement.{statement}
 use Rattle.fields.proofs.advance.Tie as tie
 
 put-inputs-requires : tie.Need-put-inputs-requires
-put-inputs-requires c κs = c .before .before .pre .1 .1 .1 .1
+put-inputs-requires c κs = let p = c .before .before .pre .1 .1 .1 .1 in (p .0, p .1)
 
 pass-requires : tie.Need-pass-requires
 pass-requires c κs =
     let s = c .before .before .before .before in
-    (s .pre .0, (s .pre .1 .0, (s .pre .1 .1 .0, (s .pre .1 .1 .1 .0, ap length (c .before .put-inputs .ensures) ∙ length-put _ _ _))))
+    (s .pre .0, (s .pre .1 .0, (s .pre .1 .1 .0, (s .pre .1 .1 .1 .0, ap length (c .before .put-inputs .ensures) ∙ length-put _ _ _ _ ∙ s .pre .1 .1 .1 .1 .2))))
 
 returns : tie.Need-returns
 returns c =
