@@ -1,6 +1,7 @@
 /* Times of the engines on one card, as the mean of many vectors: the library's field engine inside the call that runs many vectors, the same algorithm by hand, and
  * the event-driven simulator, with a given part of the inputs changing. One line: nets, gates, depth, steps, inputs, percent, and nanoseconds a vector of each;
- * then those of a call for one vector, by fields and by steps, each of which makes the session again from its bytes.
+ * then those of a call for one vector, by fields and by steps, each of which makes the session again from its bytes; then those of the steps by hand, as the library
+ * does them and with all reads looked up ahead.
  *
  *     measure SHAPE SIZE PERCENT        SHAPE: largest, ladder, random
  *     measure SHAPE SIZE PERCENT show   the card and the vectors in hex instead, a line each */
@@ -10,6 +11,7 @@
 #include "krasvome.h"
 #include "random_cards.h"
 #include "simulator.h"
+#include "steps_by_hand.h"
 
 #include <stdio.h>
 #include <stdlib.h>
@@ -50,6 +52,7 @@ int main(int argc, char **argv)
 {
     static struct sim s;
     static struct hand h;
+    static struct hand_steps st;
     uint8_t bytes[CARD_ROOM], session[KRASVOME_SESSION] = {0};
     struct random_source r = {2026};
     if (argc < 4)
@@ -77,7 +80,22 @@ int main(int argc, char **argv)
     }
     uint8_t rest[SIM_NETS] = {0};
     hand_load(&h, &s);
-    double fields = 1e30, hand = 1e30, events = 1e30, call = 1e30, steps = 1e30;
+    hand_steps_load(&st, &h);
+    uint8_t *before = malloc(CALLS * nets);
+    if (!before || st.steps != s.pairs)
+        return 2;
+    hand_rest(&h, &s, rest);
+    for (size_t k = 0; k < CALLS; k++) {
+        hand_vector(&h, vectors + k * n);
+        memcpy(before + k * nets, h.before, nets);
+        hand_steps_vector(&st, &h, h.before, vectors + k * n);
+        if (memcmp(st.word, h.word, nets * sizeof *words))
+            return 1;
+        hand_steps_ready(&st, &h, h.before, vectors + k * n);
+        if (memcmp(st.word, h.word, nets * sizeof *words))
+            return 1;
+    }
+    double fields = 1e30, hand = 1e30, events = 1e30, call = 1e30, steps = 1e30, steps_hand = 1e30, ready = 1e30;
     for (int turn = 0; turn < 40; turn++) {
         memset(session, 0, sizeof session);
         krasvome_load(session, sizeof session, bytes, length);
@@ -99,6 +117,16 @@ int main(int argc, char **argv)
                 return 1;
         t = (now() - t) / CALLS;
         steps = t < steps ? t : steps;
+        t = now();
+        for (size_t k = 0; k < CALLS; k++)
+            hand_steps_vector(&st, &h, before + k * nets, vectors + k * n);
+        t = (now() - t) / CALLS;
+        steps_hand = t < steps_hand ? t : steps_hand;
+        t = now();
+        for (size_t k = 0; k < CALLS; k++)
+            hand_steps_ready(&st, &h, before + k * nets, vectors + k * n);
+        t = (now() - t) / CALLS;
+        ready = t < ready ? t : ready;
         hand_rest(&h, &s, rest);
         t = now();
         for (size_t k = 0; k < VECTORS; k++) {
@@ -116,6 +144,6 @@ int main(int argc, char **argv)
         t = (now() - t) / VECTORS;
         events = t < events ? t : events;
     }
-    printf("%d %d %d %d %d %u %.0f %.0f %.0f %.0f %.0f\n", s.nets, h.gates, s.depth, s.pairs, s.inputs, percent, fields, hand, events, call, steps);
+    printf("%d %d %d %d %d %u %.0f %.0f %.0f %.0f %.0f %.0f %.0f\n", s.nets, h.gates, s.depth, s.pairs, s.inputs, percent, fields, hand, events, call, steps, steps_hand, ready);
     return 0;
 }

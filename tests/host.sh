@@ -1,11 +1,13 @@
 #!/usr/bin/env bash
 # The library, called from C, against an event-driven simulator on random and damaged cards; and that the comparison finds each of a handful of faults in an
-# engine that was written by hand; and that the README says what was compared. Sanitizers where the compiler has them.
+# engine that was written by hand; and that the README says what was compared. Where the programs run under an emulator there are fewer cards, and no sanitizers.
 set -euo pipefail
 cd "$(dirname "$0")/.."
 mkdir -p target/host
-host/compare 4000 1 | tee target/host/compared
-grep -qF "$(sed -n 2p target/host/compared)" README.md
+cards=1000
+[ "$(uname -m)" = x86_64 ] && cards=4000
+host/compare "$cards" 1 | tee target/host/compared
+[ "$cards" != 4000 ] || grep -qF "$(sed -n 2p target/host/compared)" README.md
 host/build compare-0
 host/start compare-0 500 1 >/dev/null
 faults=0

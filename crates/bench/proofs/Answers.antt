@@ -9,32 +9,33 @@ use lib.ListN.{length, getD}
 use borrow.Author.Tests.{eqb-true, le-leb, lt-leb}
 use Rattle.lists.proofs.Order.{at-in}
 use Rattle.rule.specs.Net.{Net}
-use Rattle.rule.specs.Steps.{Step, stepList}
+use Rattle.rule.specs.Steps.{Step, stepList, noStep}
 use Rattle.rule.specs.declared.Refusal.{Refusal}
 use Rattle.rule.specs.declared.Refusal.the-variants.{NotReady, OrderLength, OrderEntry, OrderEarly, TooManyAsked, NoRoom}
 use Rattle.rule.proofs.StepLists.{list-only}
 use Rattle.wiring.specs.declared.Verdict.{Verdict}
 use Rattle.wiring.specs.declared.Verdict.the-variants.{Refused as Faulty, Passed}
+use Rattle.inputs.specs.declared.Inputs.{Inputs}
+use Rattle.inputs.specs.Inputs.{vectorFits, inputsRead}
 use Rattle.card.specs.declared.Session.{Session}
 use Rattle.card.specs.Session.{cardOf}
 use Rattle.card.specs.Held.{HasCard}
 use Rattle.session.specs.declared.Moved.{Moved}
-use Rattle.session.specs.declared.Inputs.{Inputs}
-use Rattle.session.specs.Inputs.{vectorFits, inputsRead}
 use Rattle.session.specs.Moves.{refusedMove}
 use Rattle.session.proofs.Answers.{verdict-is as read-fits, values-given}
-use Rattle.steps.specs.Listing.{noStep, stepsIn, gatesIn, Holds}
-use Rattle.steps.proofs.Cards.{list-held, list-total, list-few, step-low}
-use Rattle.steps.proofs.Vectors.{held-net, held-time}
-use Rattle.bench.specs.Orders.{entriesFit, orderReady, orderJudged}
-use Rattle.bench.specs.Ready.{StepEntry, Named, Taken, judgedIn}
+use Rattle.orders.specs.Orders.{entriesFit, orderReady, orderJudged}
+use Rattle.orders.specs.Ready.{StepEntry, judgedIn}
+use Rattle.orders.proofs.Judging.{entries-of}
+use Rattle.listing.specs.Listing.{stepsIn, gatesIn, Holds}
+use Rattle.listing.proofs.Cards.{list-held, list-total, list-few, step-low}
+use Rattle.listing.proofs.Lists.{held-net, held-time}
+use Rattle.bench.specs.Taken.{Naming, Taken}
 use Rattle.bench.specs.Bench.{Benched, benchRefused, benchDone, benchOrder, benchVector, benchOf}
-use Rattle.bench.proofs.Judging.{entries-of}
 use Rattle.bench.proofs.Ties.{judged-is}
 
 -- The list in two arrays
 
-pub held-named : {ks : List Step} {nets₀ times₀ nets times : List ℕ} {n : ℕ} → Holds ks nets₀ times₀ nets times n → length nets₀ ≡ 4096 → length times₀ ≡ 4096 → n ≤ 4096 → Named ks nets times
+pub held-named : {ks : List Step} {nets₀ times₀ nets times : List ℕ} {n : ℕ} → Holds ks nets₀ times₀ nets times n → length nets₀ ≡ 4096 → length times₀ ≡ 4096 → n ≤ 4096 → Naming ks nets times
 held-named h ln lt few = record { net-is = held-net h ln lt few; time-is = held-time h ln lt few }
 
 -- a verdict that passes
@@ -49,7 +50,7 @@ module _ (s : Session) (h : HasCard s) where
 
   module _ {nets₀ times₀ nets times : List ℕ} {total : ℕ} (held : Holds (stepsIn (s .sets) (gatesIn (s .order) (s .gates))) nets₀ times₀ nets times total)
       (ln : length nets₀ ≡ 4096) (lt : length times₀ ≡ 4096) where
-    list-named : Named (stepList c) nets times
+    list-named : Naming (stepList c) nets times
     list-named = held-named (list-held s h held) ln lt (list-few s h held)
 
     pub list-entry : (e : ℕ) → e < total → StepEntry nets times e

@@ -1,6 +1,4 @@
-pub mod Judging
-pub mod Seen
-pub mod Marking
+pub mod Bytes
 pub mod Ties
 pub mod Runs
 pub mod Answers

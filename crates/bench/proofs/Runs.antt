@@ -9,12 +9,14 @@ use lib.ListN.{length, getD, take}
 use lib.Seq.{length-take-le, getD-take}
 use borrow.Author.Tests.{eq-eqb, ne-eqb}
 use Rattle.lists.specs.Listed.{listed}
+use Rattle.lists.specs.Filled.{filled}
 use Rattle.lists.proofs.Tests.{out-map}
 use Rattle.lists.proofs.Listed.{is-listed, listed-at, map-listed}
 use Rattle.lists.proofs.Order.{at-in}
+use Rattle.lists.proofs.Rooms.{fills-same}
 use Rattle.word.specs.Word.{bit, val}
 use Rattle.rule.specs.Net.{Net}
-use Rattle.rule.specs.Steps.{IsStep, stepList}
+use Rattle.rule.specs.Steps.{IsStep, stepList, noStep, stepAt}
 use Rattle.rule.specs.declared.Answer.the-variants.{Done}
 use Rattle.rule.proofs.Runs.{take-in}
 use Rattle.rule.proofs.StepLists.{list-only}
@@ -23,16 +25,17 @@ use Rattle.card.specs.Session.{cardOf, resting}
 use Rattle.card.specs.Held.{HasCard}
 use Rattle.card.proofs.Kept.{card-steps}
 use Rattle.session.specs.Moves.{ends}
-use Rattle.history.specs.Filled.{filled}
-use Rattle.steps.specs.Variables.{Ran, ran, Doable, numbered, ordered, historiesFrom}
-use Rattle.steps.specs.Listing.{noStep, stepAt}
+use Rattle.variables.specs.Variables.{historiesFrom}
+use Rattle.orders.specs.Orders.{stepsOf}
+use Rattle.orders.specs.Ready.{orderSteps}
+use Rattle.orders.proofs.Seen.{stands}
+use Rattle.listing.specs.Listing.{numbered}
+use Rattle.listing.proofs.Cards.{step-low}
+use Rattle.steps.specs.Runs.{Ran, ran, Doable, ordered}
 use Rattle.steps.specs.Vector.{startVars, ranAlong, ranSession}
-use Rattle.steps.proofs.Cards.{step-low, steps-doable}
-use Rattle.steps.proofs.Rooms.{fills-same}
-use Rattle.bench.specs.Orders.{stepsOf}
-use Rattle.bench.specs.Ready.{Taken, orderSteps}
+use Rattle.steps.proofs.Runs.{steps-doable}
+use Rattle.bench.specs.Taken.{Taken}
 use Rattle.bench.specs.Bench.{Benched, notDone, byteAt, byteIn, benchDone}
-use Rattle.bench.proofs.Seen.{stands}
 use Rattle.bench.proofs.Ties.{named-steps}
 
 -- the first entries, place by place

@@ -23,23 +23,23 @@ use Rattle.word.proofs.Sets.{greatest-lt}
 use Rattle.rule.specs.Net.{Net, netAt, pins, isSource, openPin, atPin}
 use Rattle.rule.specs.Chain.{pcSet}
 use Rattle.rule.specs.Run.{ready, mark}
-use Rattle.rule.specs.Steps.{Step, sameStep, IsStep, readAt, stepReads, stepList}
+use Rattle.rule.specs.Steps.{Step, sameStep, IsStep, readAt, stepReads, stepList, noStep, stepAt}
+use Rattle.rule.specs.declared.Refusal.the-variants.{OrderLength, OrderEntry, OrderEarly}
 use Rattle.rule.proofs.Nets.{at-open, at-net, not-open, net-open}
 use Rattle.rule.proofs.StepRuns.{ahead, read-there}
 use Rattle.rule.proofs.StepLists.{list-only}
-use Rattle.rule.specs.declared.Refusal.the-variants.{OrderLength, OrderEntry, OrderEarly}
 use Rattle.wiring.specs.declared.Verdict.the-variants.{Refused, Passed}
 use Rattle.card.specs.declared.Session.{Session}
 use Rattle.card.specs.Session.{cardOf}
 use Rattle.card.specs.Held.{HasCard}
 use Rattle.card.proofs.Kept.{card-fits}
-use Rattle.steps.specs.Variables.{heldIn}
-use Rattle.steps.specs.Listing.{noStep, stepAt}
-use Rattle.steps.proofs.Cards.{step-low}
+use Rattle.variables.specs.Variables.{heldIn}
+use Rattle.orders.specs.Orders.{entriesFit, stepsOf, orderReady, orderJudged}
+use Rattle.orders.specs.Ready.{orderSteps, doneOf, markIn, readyIn, judgedIn}
+use Rattle.orders.proofs.Judging.{entries-of}
+use Rattle.listing.proofs.Cards.{step-low}
 use Rattle.steps.proofs.Words.{reads-same}
-use Rattle.bench.specs.Orders.{entriesFit, stepsOf, orderReady, orderJudged}
-use Rattle.bench.specs.Ready.{Named, orderSteps, doneOf, markIn, readyIn, judgedIn}
-use Rattle.bench.proofs.Judging.{entries-of}
+use Rattle.bench.specs.Taken.{Naming}
 
 -- Bits
 
@@ -62,7 +62,7 @@ mark-long words k = length-set words (k .net) _
 
 -- Steps that two arrays name
 
-pub named-steps : (ks : List Step) (nets times : List ℕ) → Named ks nets times → (order : List ℕ) → ((e : ℕ) → e ∈ order → e < length ks) → orderSteps nets times order ≡ map (stepAt ks) order
+pub named-steps : (ks : List Step) (nets times : List ℕ) → Naming ks nets times → (order : List ℕ) → ((e : ℕ) → e ∈ order → e < length ks) → orderSteps nets times order ≡ map (stepAt ks) order
 named-steps ks nets times n order below =
     map-on (λ e. record { net = getD nets e 0; time = getD times e 0 }) (stepAt ks) order (λ e m. λ i. record { net = n .net-is e (below e m) i; time = n .time-is e (below e m) i })
 
@@ -150,7 +150,7 @@ module _ (s : Session) (h : HasCard s) where
 
   -- The judgement of an order
 
-  pub judged-is : (nets times order : List ℕ) → Named (stepList c) nets times
+  pub judged-is : (nets times order : List ℕ) → Naming (stepList c) nets times
       → judgedIn (s .counts) (s .places) (s .sets) nets times (length (stepList c)) order ≡ orderJudged c order
   unfolding judgedIn orderJudged orderReady
   judged-is nets times order n = ap (λ v. cond (eqb (length order) (length (stepList c))) v (Refused OrderLength)) (go (entriesFit (length (stepList c)) order) refl)

@@ -7,28 +7,27 @@ use Prim.Native.Nat.{ℕ}
 use lib.Dec.{eqb, leb}
 use lib.ListN.{length, getD, take}
 use Rattle.lists.specs.Entries.{some}
+use Rattle.lists.specs.Filled.{filled}
 use Rattle.word.specs.Word.{bit, val}
 use Rattle.rule.specs.Net.{Net}
-use Rattle.rule.specs.Steps.{stepList}
+use Rattle.rule.specs.Steps.{stepList, stepAt}
 use Rattle.rule.specs.declared.Refusal.the-variants.{NotReady, TooManyAsked, NoRoom}
 use Rattle.rule.specs.declared.Refusal.{Refusal}
 use Rattle.rule.specs.declared.Answer.the-variants.{Done, Refused}
 use Rattle.wiring.specs.declared.Verdict.{Verdict}
 use Rattle.wiring.specs.declared.Verdict.the-variants.{Refused as Faulty, Passed}
+use Rattle.inputs.specs.Inputs.{given, vectorFits}
 use Rattle.card.specs.declared.Session.{Session}
 use Rattle.card.specs.Session.{cardOf}
 use Rattle.session.specs.declared.Moved.{Moved}
-use Rattle.session.specs.Inputs.{given, vectorFits}
-use Rattle.history.specs.Filled.{filled}
-use Rattle.steps.specs.Listing.{stepAt}
+use Rattle.orders.specs.Orders.{stepsOf, orderJudged}
 use Rattle.steps.specs.Vector.{ranAlong, ranSession}
-use Rattle.bench.specs.Orders.{stepsOf, orderJudged}
 
 pub record Benched : Type 0 where
   pub moved : Moved
   pub room : List ℕ
 
--- the byte of a step that was not done
+-- the byte of a step that was not done: "the step's value if it is among the first k, else 2"
 unfoldable pub notDone : ℕ
 notDone = 2
 

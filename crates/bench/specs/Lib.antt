@@ -1,4 +1,3 @@
-pub mod Orders
-pub mod Ready
+pub mod Taken
 pub mod Bench
 pub mod Allowed

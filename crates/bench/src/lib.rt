@@ -1,19 +1,17 @@
-// Orders of step numbers, and the bench run.
+// The bench run: the first steps of an order that was judged, and the byte of each.
 ghost use mathlib.Core.Path.{_≡_};
 ghost use mathlib.Core.Bool.{true, false, cond};
 ghost use Prim.Native.Nat.{ℕ, _<_, _≤_};
 ghost use lib.Dec.{eqb};
-ghost use lib.ListN.{length, getD, take, replicate};
-ghost use Rattle.lists.specs.Entries.{some, every};
+ghost use lib.ListN.{length, getD, take};
+ghost use Rattle.lists.specs.Entries.{some};
 ghost use Rattle.lists.specs.Listed.{listed};
+ghost use Rattle.lists.specs.Filled.{filled};
 ghost use Rattle.word.specs.Word.{bit, val};
-ghost use Rattle.wiring.specs.Wires.{Wires, Fitting};
 ghost use Rattle.card.specs.Session.{cardOf};
 ghost use Rattle.session.specs.Good.{Good};
-ghost use Rattle.steps.specs.Variables.{readsIn};
-ghost use Rattle.history.specs.Filled.{filled};
-ghost use Rattle.bench.specs.Orders.{entriesFit, orderJudged};
-ghost use Rattle.bench.specs.Ready.{StepEntry, Taken, orderSteps, doneOf, readyIn, judgedIn};
+ghost use Rattle.orders.specs.Orders.{orderJudged};
+ghost use Rattle.bench.specs.Taken.{Taken};
 ghost use Rattle.bench.specs.Bench.{notDone, byteIn, benchDone, benchOrder, benchOf};
 use card::Session;
 use rule::Answer;
@@ -21,111 +19,6 @@ use rule::Refusal;
 use session::Moved;
 use wiring::Verdict;
 use word::PcSet;
-
-// Whether every entry of an order is a step's number, and none stands twice.
-fn entries_fit(order: &[u16], total: usize) -> bool
-    requires { ⌜ total ≤ 4096 ⌝ }
-    ensures { λ r. ⌜ r ≡ entriesFit total (now (order .entry)) ⌝ }
-{
-    let mut seen = [false; 4096];
-    let mut i: usize = 0;
-    while i < order.len() {
-        let e = wiring::wide16(order[i]);
-        if total <= e {
-            return false;
-        }
-        if seen[e] {
-            return false;
-        }
-        seen[e] = true;
-        i += 1;
-    }
-    true
-}
-
-// Whether all that gate g reads at time t is there: bit u of a net's word in `done` says that its variable of time u is. That of an open pin always is.
-fn reads_done<'a>(
-    done: &[u64; 256],
-    counts: &'a [u8; 256],
-    places: &'a [u16; 2048],
-    sets: &'a [u64; 256],
-    n: usize,
-    g: usize,
-    t: u32,
-) -> bool
-    requires { ⌜ Wires (now counts) (now places) n ⌝ }
-    requires { ⌜ Fitting (now counts) (now places) n ⌝ }
-    requires { ⌜ (g < 256) × (0 < t) ⌝ }
-    ensures { λ r. ⌜ r ≡ every (doneOf (now (done .entry))) (readsIn (now (counts .entry)) (now (places .entry)) (now (sets .entry)) (record { net = g; time = t })) ⌝ }
-{
-    let count = wiring::wide(counts[g]);
-    let mut j: usize = 0;
-    while j < count {
-        if !steps::read_at(done, sets, places[g * 8 + j], t, true) {
-            return false;
-        }
-        j += 1;
-    }
-    true
-}
-
-// Whether no step of an order stands before one that it reads.
-fn order_ready<'a>(
-    counts: &'a [u8; 256],
-    places: &'a [u16; 2048],
-    sets: &'a [u64; 256],
-    n: usize,
-    nets: &'a [u16; 4096],
-    times: &'a [u8; 4096],
-    order: &'a [u16],
-) -> bool
-    requires { ⌜ Wires (now counts) (now places) n ⌝ }
-    requires { ⌜ Fitting (now counts) (now places) n ⌝ }
-    requires { ⌜ ((i : ℕ) → i < length (now order) → StepEntry (now nets) (now times) (getD (now order) i 0)) ⌝ }
-    ensures { λ r. ⌜ r ≡ readyIn (now (counts .entry)) (now (places .entry)) (now (sets .entry)) (replicate 256 1) (orderSteps (now (nets .entry)) (now (times .entry)) (now (order .entry))) ⌝ }
-{
-    let mut done = [1u64; 256];
-    let mut i: usize = 0;
-    while i < order.len() {
-        let e = wiring::wide16(order[i]);
-        let g = wiring::wide16(nets[e]);
-        let t = steps::narrow(times[e]);
-        if !reads_done(&done, counts, places, sets, n, g, t) {
-            return false;
-        }
-        done[g] = word::put(done[g], t, true);
-        i += 1;
-    }
-    true
-}
-
-// The judgement of an order: 15, 16, 17.
-fn judge_order<'a>(
-    counts: &'a [u8; 256],
-    places: &'a [u16; 2048],
-    sets: &'a [u64; 256],
-    n: usize,
-    nets: &'a [u16; 4096],
-    times: &'a [u8; 4096],
-    total: usize,
-    order: &'a [u16],
-) -> Verdict
-    requires { ⌜ Wires (now counts) (now places) n ⌝ }
-    requires { ⌜ Fitting (now counts) (now places) n ⌝ }
-    requires { ⌜ (total ≤ 4096) × ((e : ℕ) → e < total → StepEntry (now nets) (now times) e) ⌝ }
-    ensures { λ r. ⌜ r ≡ judgedIn (now (counts .entry)) (now (places .entry)) (now (sets .entry)) (now (nets .entry)) (now (times .entry)) total (now (order .entry)) ⌝ }
-{
-    if order.len() != total {
-        return Verdict::Refused(Refusal::OrderLength);
-    }
-    if !entries_fit(order, total) {
-        return Verdict::Refused(Refusal::OrderEntry);
-    }
-    if !order_ready(counts, places, sets, n, nets, times, order) {
-        return Verdict::Refused(Refusal::OrderEarly);
-    }
-    Verdict::Passed
-}
 
 // Which step numbers are among the first k entries of an order.
 fn among(order: &[u16], k: usize) -> [bool; 4096]
@@ -141,12 +34,15 @@ fn among(order: &[u16], k: usize) -> [bool; 4096]
     out
 }
 
-// The byte of a step: its variable's value if it was done, else 2.
+// The byte of a step that was not done.
+const NOT_DONE: u8 = 2;
+
+// The byte of a step: its variable's value if it was done.
 fn step_byte(done: bool, word: u64, t: u32) -> u8
     ensures { λ r. ⌜ r ≡ cond done (val (bit word t)) notDone ⌝ }
 {
     if !done {
-        return 2;
+        return NOT_DONE;
     }
     let w = PcSet { word };
     if w.has(t) { 1 } else { 0 }
@@ -167,7 +63,7 @@ fn put_bytes<'a>(
     let mut e: usize = 0;
     while e < total {
         let g = wiring::wide16(nets[e]);
-        room[e] = step_byte(done[e], vars[g], steps::narrow(times[e]));
+        room[e] = step_byte(done[e], vars[g], variables::narrow(times[e]));
         e += 1;
     }
 }
@@ -190,8 +86,8 @@ fn do_first<'a>(
     requires { ⌜ (first ≤ total) × (total ≤ length (now room)) ⌝ }
     ensures { λ r. ⌜ record { moved = r; room = now (room .exit) } ≡ benchDone s (λ (n : ℕ). getD (now (values .entry)) n false) (now (order .entry)) first (now (room .entry)) ⌝ }
 {
-    let before = session::tops(&s.words);
-    let mut vars = session::start(&s.kinds, values, &before);
+    let before = fields::tops(&s.words);
+    let mut vars = fields::start(&s.kinds, values, &before);
     let count = steps::run_order(
         &mut vars,
         &s.types,
@@ -212,7 +108,7 @@ fn do_first<'a>(
             session: s,
         };
     }
-    let words = steps::histories_from(&vars, &s.sets);
+    let words = variables::histories_from(&vars, &s.sets);
     let next = session::with_words(s, s.rested, before, words);
     Moved {
         answer: Answer::Done(count),
@@ -234,8 +130,8 @@ fn run_bench<'a>(
 {
     let mut nets = [0u16; 4096];
     let mut times = [0u8; 4096];
-    let total = steps::put_list(&mut nets, &mut times, &s.sets, &s.order, s.gates);
-    let verdict = judge_order(
+    let total = listing::put_list(&mut nets, &mut times, &s.sets, &s.order, s.gates);
+    let verdict = orders::judge_order(
         &s.counts,
         &s.places,
         &s.sets,
@@ -267,7 +163,7 @@ pub fn bench(s: Session, v: &[u8], order: &[u16], k: u64, room: &mut [u8]) -> Mo
     if !s.rested {
         return session::refused(s, Refusal::NotReady);
     }
-    let read = session::read_inputs(&s.kinds, s.inputs, v);
+    let read = inputs::read_inputs(&s.kinds, s.inputs, v);
     let verdict = read.verdict;
     match verdict {
         Verdict::Refused(why) => session::refused(s, why),

@@ -6,24 +6,28 @@ use mathlib.Core.Logic.{_⊎_}
 use Prim.Native.Nat.{ℕ, _+_, _≤_, _<_}
 use native.Mathlib.Omega.{arith}
 use native.Mathlib.Decide.{decLe}
-use lib.Dec.{eqb}
+use lib.Dec.{eqb, lit<}
 use lib.ListN.{length, getD}
 use borrow.Author.Tests.{lt-ltb, le-ltb, eqb-false}
 use Rattle.lists.specs.Entries.{_∈_}
 use Rattle.lists.specs.Listed.{listed}
 use Rattle.lists.proofs.Listed.{listed-at}
+use Rattle.lists.proofs.Number.{distinct-below}
 use Rattle.word.specs.Word.{wordOf}
 use Rattle.rule.specs.Net.{Net as CardNet, pins, openPin}
 use Rattle.rule.specs.Chain.{pcSet}
 use Rattle.rule.specs.Level.{level, depth}
 use Rattle.rule.specs.Steps.{gateOrder, stepList}
-use Rattle.rule.proofs.Depths.{level-depth}
 use Rattle.rule.specs.declared.Refusal.the-variants.{NotReady, NoSuchNet}
 use Rattle.rule.specs.declared.NetAnswer.the-variants.{Net, Refused}
+use Rattle.rule.proofs.Depths.{level-depth}
+use Rattle.rule.proofs.GateOrders.{out-order, order-once}
 use Rattle.wiring.specs.Layout.{kindsOf, typesOf, countsOf, placesOf, pinsAt}
-use Rattle.wiring.specs.Wires.{Wires, Fitting, backs, padded}
+use Rattle.wiring.specs.Wires.{Wires, Fitting, backs, highest, padded, sizesOf}
 use Rattle.wiring.specs.Wired.{setWords}
-use Rattle.wiring.proofs.Layouts.{pins-laid, levels-laid, wires-laid, card-laid}
+use Rattle.wiring.proofs.Layouts.{pins-laid, levels-laid, depth-laid, wires-laid, card-laid}
+use Rattle.wiring.proofs.Orders.{padded-all, padded-back}
+use Rattle.wiring.proofs.CardSets.{sizes-laid}
 use Rattle.records.proofs.Fitted.{Fitted, fitted}
 use Rattle.card.specs.declared.Session.{Session}
 use Rattle.card.specs.Session.{none, inputsOf, sessionOf, cardOf, resting}
@@ -101,6 +105,23 @@ module _ (s : Session) (h : HasCard s) where
   pub card-fits : Fitted c
   card-fits = legible-fits c (h .accepted .legible)
 
+  -- the arrays have room for its nets
+  pub few : s .nets ≤ 256
+  few = omega (arith, nets-are, card-fits .fits .few)
+
+  -- and for its gates, which they hold in their order
+  few-gates : length (gateOrder c) ≤ 256
+  few-gates = omega (arith, distinct-below (length c) (gateOrder c) (order-once c) (λ g m. out-order c g m .1), card-fits .fits .few)
+
+  pub order-back : listed (λ i. getD (s .order) i 0) (s .gates) ≡ gateOrder c
+  order-back = ap₂ (λ xs k. listed (λ i. getD xs i 0) k) order-is gates-are ∙ padded-back (gateOrder c) few-gates
+
+  pub order-fits : (s .gates ≤ 256) × ((i : ℕ) → getD (s .order) i 0 < 256)
+  order-fits = (
+    omega (arith, gates-are, few-gates),
+    λ i. subst (λ xs. getD xs i 0 < 256) (sym order-is) (padded-all (λ x. x < 256) (gateOrder c) i (λ g m. omega (arith, out-order c g m .1, card-fits .fits .few)) (lit< tt)),
+  )
+
   -- so the loops over its arrays may run,
   pub card-wires : Wires (s .counts) (s .places) (s .nets)
   card-wires =
@@ -131,17 +152,24 @@ module _ (s : Session) (h : HasCard s) where
       go (yes l) = l
       go (no l) = absurd (h .accepted .short (long-tells c (h .accepted .free) (card-fits .pinned) .yes-is (lt-ltb 4096 (length (stepList c)) (omega arith))))
 
-  -- the levels worked out from its wiring are the card's, and the words are its PC-sets
+  -- the levels worked out from its wiring are the card's, and so is the depth
+  levels-are : backs (s .counts) (s .places) (s .nets + 1) ≡ listed (level c) 256
+  levels-are = ap₂ (λ x y. backs x y (s .nets + 1)) counts-are places-are ∙ ap (λ k. backs (countsOf c) (placesOf c) (k + 1)) nets-are ∙ levels-laid c (card-fits .fits)
+
   pub card-levels : (n : ℕ) → n < s .nets → getD (backs (s .counts) (s .places) (s .nets + 1)) n 0 ≡ level c n
-  card-levels n l =
-      let few = card-fits .fits .few in
-      let e : backs (s .counts) (s .places) (s .nets + 1) ≡ listed (level c) 256 =
-      ap₂ (λ x y. backs x y (s .nets + 1)) counts-are places-are ∙ ap (λ k. backs (countsOf c) (placesOf c) (k + 1)) nets-are ∙ levels-laid c (card-fits .fits) in
-      ap (λ xs. getD xs n 0) e ∙ listed-at (level c) 256 n 0 (omega (arith, nets-are))
+  card-levels n l = ap (λ xs. getD xs n 0) levels-are ∙ listed-at (level c) 256 n 0 (omega (arith, few))
+
+  pub depth-is : highest (backs (s .counts) (s .places) (s .nets + 1)) (s .nets) ≡ depth c
+  depth-is = ap₂ highest levels-are nets-are ∙ depth-laid c (card-fits .fits)
+
+  -- the words are its PC-sets, and their sizes added are the number of its steps
 
   pub card-sets : (n : ℕ) → n < 256 → getD (s .sets) n 0 ≡ wordOf 64 (pcSet c n)
   unfolding setWords
   card-sets n l = ap (λ xs. getD xs n 0) sets-are ∙ listed-at (λ m. wordOf 64 (pcSet c m)) 256 n 0 l
+
+  pub steps-is : sizesOf (s .sets) (listed (λ i. getD (s .order) i 0) (s .gates)) ≡ length (stepList c)
+  steps-is = ap₂ sizesOf sets-are order-back ∙ sizes-laid c (h .accepted .free) (card-fits .fits) card-depth
 
 -- The question about a net: 12, 13, or its level and word
 

@@ -16,6 +16,7 @@ use Rattle.rule.specs.Steps.{gateOrder, stepList}
 use Rattle.rule.specs.declared.Refusal.{Refusal}
 use Rattle.rule.specs.declared.Refusal.the-variants.{NoInput, NoSuchPin, Looped, TooDeep, TooManySteps}
 use Rattle.rule.specs.declared.Answer.the-variants.{Done}
+use Rattle.rule.proofs.Nets.{at-pin-all}
 use Rattle.wiring.specs.declared.Verdict.{Verdict}
 use Rattle.wiring.specs.declared.Verdict.the-variants.{Refused as Faulty, Passed}
 use Rattle.wiring.specs.declared.Wired.{Wired}
@@ -24,12 +25,11 @@ use Rattle.wiring.specs.Wires.{Wires}
 use Rattle.wiring.specs.Wired.{pinsFit, mostBack, setWords, passed, refused as faulty, wiredOf}
 use Rattle.wiring.proofs.Layouts.{wires-laid, kind-at, kind-past}
 use Rattle.wiring.proofs.CardSets.{count-ends}
-use Rattle.rule.proofs.Nets.{at-pin-all}
 use Rattle.records.specs.declared.Outcome.the-variants.{Refused, Read}
 use Rattle.records.specs.declared.Parsed.{Parsed}
 use Rattle.records.specs.Written.{Bytes}
-use Rattle.records.proofs.Fitted.{read-fits}
 use Rattle.records.specs.Scan.{Meaning, Stops, Means, meaning, parsedOf}
+use Rattle.records.proofs.Fitted.{read-fits}
 use Rattle.card.specs.declared.Session.{Session}
 use Rattle.card.specs.declared.Loaded.{Loaded}
 use Rattle.card.specs.Session.{isInput, inputsOf, sessionOf}
@@ -88,9 +88,9 @@ module _ (old : Session) (c : List Net) where
   unfolding judged
   judged-none e = rw (eq-eqb (inputsOf c) 0 e)
 
-  pub judged-some : ¬ (inputsOf c ≡ 0) → (v : Verdict) → wiredOf c .verdict ≡ v → concluded old c v ≡ judged old c
+  pub judged-some : ¬ (inputsOf c ≡ 0) → concluded old c (length c) (wiredOf c .verdict) ≡ judged old c
   unfolding judged
-  judged-some h v e = rw (ne-eqb (inputsOf c) 0 h) (ap (concluded old c) (sym e))
+  judged-some h = rw (ne-eqb (inputsOf c) 0 h)
 
 -- a wiring that passes has the order and the sets
 pub wired-passed : (c : List Net) → wiredOf c .verdict ≡ Passed
@@ -129,26 +129,31 @@ pub record Laid (c : List Net) (n : ℕ) (kinds types counts places : List ℕ) 
   pub counts-laid : counts ≡ countsOf c
   pub places-laid : places ≡ placesOf c
 
-module _ {c : List Net} {n : ℕ} {kinds types counts places : List ℕ} (laid : Laid c n kinds types counts places) (inputs : ℕ)
-    (counted : inputs ≡ count (λ g. eqb (getD kinds g 0) 1) n) where
-  inputs-of : inputs ≡ inputsOf c
-  inputs-of =
-      counted ∙ ap (λ ks. count (λ g. eqb (getD ks g 0) 1) n) (laid .kinds-laid) ∙ ap (count (λ g. eqb (getD (kindsOf c) g 0) 1)) (sym (laid .size))
-      ∙ inputs-counted c (laid .fits)
+module _ {c : List Net} {n : ℕ} {kinds types counts places : List ℕ} (laid : Laid c n kinds types counts places) (inputs : ℕ) (old : Session) where
+  -- 9, and what follows where there is an input
+  module _ (counted : inputs ≡ count (λ g. eqb (getD kinds g 0) 1) n) where
+    inputs-of : inputs ≡ inputsOf c
+    inputs-of =
+        counted ∙ ap (λ ks. count (λ g. eqb (getD ks g 0) 1) n) (laid .kinds-laid) ∙ ap (count (λ g. eqb (getD (kindsOf c) g 0) 1)) (sym (laid .size))
+        ∙ inputs-counted c (laid .fits)
 
-  pub judge-none : (old : Session) → inputs ≡ 0 → refusal old NoInput ≡ judged old c
-  judge-none old e = judged-none old c (sym inputs-of ∙ e)
+    pub judge-none : inputs ≡ 0 → refusal old NoInput ≡ judged old c
+    judge-none e = judged-none old c (sym inputs-of ∙ e)
 
-  module _ (old : Session) (some-in : inputs ≡ 0 → ⊥) (w : Wired) (wired : w ≡ wiredOf c) where
-    by-verdict : (v : Verdict) → w .verdict ≡ v → concluded old c v ≡ judged old c
-    by-verdict v e = judged-some old c (λ z. some-in (inputs-of ∙ z)) v (ap (λ x. x .verdict) (sym wired) ∙ e)
+    pub judge-some : (r : Loaded) → (inputs ≡ inputsOf c → r ≡ concluded old c n (wiredOf c .verdict)) → (inputs ≡ 0 → ⊥) → r ≡ judged old c
+    judge-some r e some = e inputs-of ∙ ap (λ k. concluded old c k (wiredOf c .verdict)) (sym (laid .size)) ∙ judged-some old c (λ z. some (inputs-of ∙ z))
 
-    pub judge-faulty : (r : Refusal) → w .verdict ≡ Faulty r → refusal old r ≡ judged old c
-    judge-faulty r e = by-verdict (Faulty r) e
+  -- the wiring's verdict
+  module _ (counted : inputs ≡ inputsOf c) (k : ℕ) (w : Wired) (wired : w ≡ wiredOf c) where
+    by-verdict : (v : Verdict) → w .verdict ≡ v → concluded old c k v ≡ concluded old c k (wiredOf c .verdict)
+    by-verdict v e = ap (concluded old c k) (sym e ∙ ap (λ x. x .verdict) wired)
 
-    pub judge-passed : w .verdict ≡ Passed
+    pub conclude-faulty : (r : Refusal) → w .verdict ≡ Faulty r → refusal old r ≡ concluded old c k (wiredOf c .verdict)
+    conclude-faulty r e = by-verdict (Faulty r) e
+
+    pub conclude-passed : w .verdict ≡ Passed
         → _≡_ {A = Loaded} (record {
-          answer = Done n;
+          answer = Done k;
           session = record {
             loaded = true;
             rested = false;
@@ -164,11 +169,11 @@ module _ {c : List Net} {n : ℕ} {kinds types counts places : List ℕ} (laid :
             before = replicate 256 false;
             words = replicate 256 0;
           };
-        }) (judged old c)
+        }) (concluded old c k (wiredOf c .verdict))
     unfolding sessionOf
-    judge-passed e =
+    conclude-passed e =
         let p : w ≡ passed (gateOrder c) (setWords c) = wired ∙ wired-passed c (ap (λ x. x .verdict) (sym wired) ∙ e) in
-        rw (ap (λ x. x .gates) p, ap (λ x. x .order) p, ap (λ x. x .sets) p, laid .kinds-laid, laid .types-laid, laid .counts-laid, laid .places-laid, inputs-of, ← laid .size) (by-verdict Passed e)
+        rw (ap (λ x. x .gates) p, ap (λ x. x .order) p, ap (λ x. x .sets) p, laid .kinds-laid, laid .types-laid, laid .counts-laid, laid .places-laid, counted, ← laid .size) (by-verdict Passed e)
 
 -- Load, from what reading came to
 

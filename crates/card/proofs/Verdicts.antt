@@ -22,16 +22,12 @@ use Rattle.records.proofs.Cards.{read-back, written, why, stops}
 use Rattle.records.proofs.Fitted.{read-fits}
 use Rattle.card.specs.declared.Session.{Session}
 use Rattle.card.specs.declared.Loaded.{Loaded}
-use Rattle.card.specs.Session.{inputsOf, sessionOf}
-use Rattle.card.specs.Load.{refusal, concluded, judged, loadMeant, loadOf}
+use Rattle.card.specs.Session.{inputsOf}
+use Rattle.card.specs.Load.{refusal, taken, concluded, judged, loadMeant, loadOf}
 use Rattle.card.specs.Allowed.{Fed, Deep, Long, Accepted, Allowed, Writes, Gets, gets-stopped, gets-9, gets-4, gets-5, gets-6, gets-7}
-use Rattle.card.specs.Held.{Carded}
-use Rattle.card.proofs.Kept.{taken-carded}
+use Rattle.card.specs.Held.{HasCard, Carded}
+use Rattle.card.proofs.Kept.{session-holds, taken-carded}
 use Rattle.card.proofs.Tests.{Tells, tells-true, tells-false, fed-tells, fed-or-not, named-tells, loop-tells, deep-tells, long-tells}
-
--- a card that is taken
-abbrev pub taken : List Net → Loaded
-taken c = record { answer = Done (length c); session = sessionOf c }
 
 -- The judgement of a card that was read
 
@@ -49,13 +45,13 @@ module _ (old : Session) (c : List Net) where
       (go (passed (gateOrder c) (setWords c)) refl (pinsFit c) (ltb (length c) (mostBack c)) (ltb 63 (depth c)) (ltb 4096 (length (stepList c))))
     where
       go : (w : Wired) → w .verdict ≡ Passed → (a b d e : Bool)
-          → concluded old c ((cond a (cond b (faulty LoopedCard) (cond d (faulty TooDeep) (cond e (faulty TooManySteps) w))) (faulty NoSuchPin)) .verdict)
+          → concluded old c (length c) ((cond a (cond b (faulty LoopedCard) (cond d (faulty TooDeep) (cond e (faulty TooManySteps) w))) (faulty NoSuchPin)) .verdict)
           ≡ cond a (cond b (refusal old LoopedCard) (cond d (refusal old TooDeep) (cond e (refusal old TooManySteps) (taken c)))) (refusal old NoSuchPin)
       go w h false b d e = refl
       go w h true true d e = refl
       go w h true false true e = refl
       go w h true false false true = refl
-      go w h true false false false = ap (concluded old c) h
+      go w h true false false false = ap (concluded old c (length c)) h
 
   module _ (pinned : Pinned c) where
     pub judged-9 : ¬ Fed c → judged old c ≡ refusal old NoInput
@@ -187,6 +183,12 @@ module _ (old : Session) (s : List ℕ) (bytes : Bytes s) where
       go : (x : Loaded) → Ruling old s x → x .answer ≡ Done k → (a : Allowed s) × (x ≡ taken (a .card))
       go x (refuses q g) e = let z : _≡_ {A = ℕ} 0 1 = cc in absurd (omega arith)
       go x (takes a) e = (a, refl)
+
+  -- a card that load takes is held
+  pub load-holds : (l : Loaded) → l ≡ loadOf old s → (k : ℕ) → l .answer ≡ Done k → HasCard (l .session)
+  load-holds l e k d =
+      let t = load-taken k (ap (λ x. x .answer) (sym e) ∙ d) in
+      subst (λ x. HasCard (x .session)) (sym (e ∙ t .1)) (session-holds (t .0 .card) (t .0 .accepted))
 
   -- load keeps what sessions keep of a card
   pub load-carded : Carded old → Carded (loadOf old s .session)

@@ -20,14 +20,18 @@ use Rattle.card.specs.Session.{inputsOf, sessionOf}
 abbrev pub refusal : Session → Refusal → Loaded
 refusal old why = record { answer = Refused why; session = old }
 
--- "Load gives the number of nets"
-abbrev pub concluded : Session → List Net → Verdict → Loaded
-concluded old c (Faulty why) = refusal old why
-concluded old c Passed = record { answer = Done (length c); session = sessionOf c }
+-- a card that is taken
+abbrev pub taken : List Net → Loaded
+taken c = record { answer = Done (length c); session = sessionOf c }
 
--- "After the end record: 8, 9, 4, 5, 6, 7."
+-- a card whose wiring passes replaces the old one, and a count is handed back
+abbrev pub concluded : Session → List Net → ℕ → Verdict → Loaded
+concluded old c count (Faulty why) = refusal old why
+concluded old c count Passed = record { answer = Done count; session = sessionOf c }
+
+-- "After the end record: 8, 9, 4, 5, 6, 7." "Load gives the number of nets"
 unfoldable pub judged : Session → List Net → Loaded
-judged old c = cond (eqb (inputsOf c) 0) (refusal old NoInput) (concluded old c (wiredOf c .verdict))
+judged old c = cond (eqb (inputsOf c) 0) (refusal old NoInput) (concluded old c (length c) (wiredOf c .verdict))
 
 abbrev pub loadMeant : Session → Meaning → Loaded
 loadMeant old (Stops why) = refusal old why

@@ -2,7 +2,7 @@
 use mathlib.Core.Bool.{Bool, true, false}
 use mathlib.Core.List.{List}
 use Prim.Native.Nat.{ℕ}
-use lib.ListN.{length, replicate}
+use lib.ListN.{length, getD, replicate}
 use Rattle.word.specs.Times.{count}
 use Rattle.rule.specs.Net.{Net, input, constant, gate, netAt}
 use Rattle.rule.specs.Steps.{gateOrder}
@@ -59,6 +59,13 @@ sessionOf c = record {
 -- the card that a session holds
 unfoldable pub cardOf : Session → List Net
 cardOf s = cardIn (s .kinds) (s .types) (s .counts) (s .places) (s .nets)
+
+-- the word of net n in its last history, and its value ahead of that word's time 0
+abbrev pub wordAt : Session → ℕ → ℕ
+wordAt s n = getD (s .words) n 0
+
+abbrev pub beforeAt : Session → ℕ → Bool
+beforeAt s n = getD (s .before) n false
 
 -- a session with the same card, at another rest
 abbrev pub resting : Session → Bool → List Bool → List ℕ → Session

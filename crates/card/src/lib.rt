@@ -8,11 +8,14 @@ ghost use lib.ListN.{length, getD};
 ghost use Rattle.word.specs.Word.{val};
 ghost use Rattle.word.specs.Times.{count};
 ghost use Rattle.rule.specs.Net.{Net, Pinned};
+ghost use Rattle.rule.specs.Level.{depth as depthOf};
+ghost use Rattle.rule.specs.Steps.{stepList};
 ghost use Rattle.wiring.specs.Layout.{Fits, kindsOf, typesOf, countsOf, placesOf};
-ghost use Rattle.card.specs.Session.{none};
 ghost use Rattle.wiring.specs.Wires.{Wires};
-ghost use Rattle.card.specs.Load.{refusal, loadOf, judged};
-ghost use Rattle.card.specs.Held.{Carded};
+ghost use Rattle.wiring.specs.Wired.{wiredOf};
+ghost use Rattle.card.specs.Session.{none, inputsOf, cardOf};
+ghost use Rattle.card.specs.Load.{refusal, concluded, loadOf, judged};
+ghost use Rattle.card.specs.Held.{HasCard, Carded};
 ghost use Rattle.card.specs.Asked.{netAsked};
 use records::Outcome;
 use rule::Answer;
@@ -98,9 +101,12 @@ pub fn inputs_below(kinds: &[u8; 256], n: usize) -> usize
     inputs
 }
 
-// A card that was read, laid out in arrays: 9, then what the wiring's judgement gives, 4, 5, 6, 7; else it replaces the old one.
-fn judge<'a>(
+// A card laid out in arrays, that has so many inputs: what the wiring's judgement gives, 4, 5, 6, 7; else it replaces the old one, and a count
+// is handed back.
+fn conclude<'a>(
     old: Session,
+    count: usize,
+    inputs: usize,
     n: usize,
     kinds: &'a [u8; 256],
     types: &'a [u8; 256],
@@ -108,12 +114,8 @@ fn judge<'a>(
     places: &'a [u16; 2048],
 ) -> Loaded
     requires { ⌜ Wires (now counts) (now places) n ⌝ }
-    ensures { λ r. ⌜ ((c : List Net) → Fits c → Pinned c → length c ≡ n → now (kinds .entry) ≡ kindsOf c → now (types .entry) ≡ typesOf c → now (counts .entry) ≡ countsOf c → now (places .entry) ≡ placesOf c → r ≡ judged old c) ⌝ }
+    ensures { λ r. ⌜ ((c : List Net) → Fits c → Pinned c → length c ≡ n → inputs ≡ inputsOf c → now (kinds .entry) ≡ kindsOf c → now (types .entry) ≡ typesOf c → now (counts .entry) ≡ countsOf c → now (places .entry) ≡ placesOf c → r ≡ concluded old c count (wiredOf c .verdict)) ⌝ }
 {
-    let inputs = inputs_below(kinds, n);
-    if inputs == 0 {
-        return refused(old, Refusal::NoInput);
-    }
     let w = wiring::wire(counts, places, n);
     let verdict = w.verdict;
     match verdict {
@@ -122,7 +124,7 @@ fn judge<'a>(
             let order = w.order;
             let sets = w.sets;
             Loaded {
-                answer: Answer::Done(n),
+                answer: Answer::Done(count),
                 session: Session {
                     loaded: true,
                     rested: false,
@@ -141,6 +143,25 @@ fn judge<'a>(
             }
         }
     }
+}
+
+// A card that was read, laid out in arrays: 9, then 4, 5, 6, 7; else it replaces the old one.
+fn judge<'a>(
+    old: Session,
+    n: usize,
+    kinds: &'a [u8; 256],
+    types: &'a [u8; 256],
+    counts: &'a [u8; 256],
+    places: &'a [u16; 2048],
+) -> Loaded
+    requires { ⌜ Wires (now counts) (now places) n ⌝ }
+    ensures { λ r. ⌜ ((c : List Net) → Fits c → Pinned c → length c ≡ n → now (kinds .entry) ≡ kindsOf c → now (types .entry) ≡ typesOf c → now (counts .entry) ≡ countsOf c → now (places .entry) ≡ placesOf c → r ≡ judged old c) ⌝ }
+{
+    let inputs = inputs_below(kinds, n);
+    if inputs == 0 {
+        return refused(old, Refusal::NoInput);
+    }
+    conclude(old, n, inputs, n, kinds, types, counts, places)
 }
 
 // A card from any bytes: it replaces the old one, or is refused and leaves it.
@@ -170,4 +191,21 @@ pub fn ask_net(s: Session, n: u64) -> NetAnswer
     let at = n as usize;
     let levels = wiring::gates_back(&s.counts, &s.places, nets);
     NetAnswer::Net(levels[at], s.sets[at])
+}
+
+// The depth of a session's card.
+pub fn depth_of(s: Session) -> usize
+    requires { ⌜ HasCard s ⌝ }
+    ensures { λ r. ⌜ r ≡ depthOf (cardOf s) ⌝ }
+{
+    let levels = wiring::gates_back(&s.counts, &s.places, s.nets);
+    wiring::highest_of(&levels, s.nets) as usize
+}
+
+// The length of its step list.
+pub fn steps_of(s: Session) -> usize
+    requires { ⌜ HasCard s ⌝ }
+    ensures { λ r. ⌜ r ≡ length (stepList (cardOf s)) ⌝ }
+{
+    wiring::steps_of(&s.sets, &s.order, s.gates)
 }

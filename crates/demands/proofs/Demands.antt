@@ -10,45 +10,45 @@ use Rattle.lists.specs.Entries.{_∈_, Number}
 use Rattle.word.specs.Word.{bit, val}
 use Rattle.rule.specs.Net.{Net}
 use Rattle.rule.specs.Rule.{value, Rest}
-use Rattle.rule.specs.Steps.{Joined, GoodOrder, stepList}
+use Rattle.rule.specs.Steps.{Joined, GoodOrder, stepList, stepAt}
 use Rattle.rule.specs.Numbers.{numberOf, answerNumber, answerCount}
 use Rattle.rule.specs.declared.Refusal.{Refusal}
 use Rattle.rule.specs.declared.Refusal.the-variants.{OrderLength, OrderEntry, OrderEarly}
 use Rattle.rule.specs.declared.Answer.the-variants.{Done, Refused}
+use Rattle.rule.specs.Flag.{flagOf}
 use Rattle.rule.proofs.StepLists.{list-number}
 use Rattle.wiring.specs.declared.Verdict.{Verdict}
+use Rattle.inputs.specs.Inputs.{given}
+use Rattle.inputs.specs.Allowed.{Vector, gets-12, gets-10, gets-11}
 use Rattle.records.specs.Written.{Bytes}
 use Rattle.card.specs.declared.Session.{Session}
 use Rattle.card.specs.Session.{none, cardOf}
-use Rattle.card.specs.Load.{refusal, loadOf}
+use Rattle.card.specs.Load.{refusal, loadOf, taken}
 use Rattle.card.specs.Allowed.{Allowed, Gets}
 use Rattle.card.specs.Held.{HasCard}
 use Rattle.card.proofs.Kept.{nets-are, card-fits}
-use Rattle.card.proofs.Verdicts.{taken, load-takes, load-taken, load-refuses, load-refused}
+use Rattle.card.proofs.Verdicts.{load-takes, load-taken, load-refuses, load-refused}
 use Rattle.session.specs.Good.{Good}
-use Rattle.session.specs.Inputs.{given, givenTo}
-use Rattle.session.specs.Moves.{ends, restOf, vectorOf}
-use Rattle.session.specs.Allowed.{Vector, gets-12, gets-10, gets-11}
+use Rattle.session.specs.Moves.{givenTo, ends, restOf, vectorOf}
 use Rattle.session.specs.Sequence.{after, stateAfter}
 use Rattle.session.proofs.Kept.{none-good, load-good, rest-good, vector-good}
 use Rattle.session.proofs.Held.{given-card}
 use Rattle.session.proofs.Refusals.{vector-fits, vector-takes}
 use Rattle.session.proofs.Rules.{rest-settles, rest-flat, vector-rule}
 use Rattle.session.proofs.Sequences.{Stands, sequence-rule, sequence-stands}
-use Rattle.rule.specs.Flag.{flagOf}
 use Rattle.history.specs.Told.{historyOf}
 use Rattle.history.proofs.Flags.{flag-cong}
 use Rattle.history.proofs.Histories.{Roomy, history-0, history-count, history-shows}
-use Rattle.steps.specs.Listing.{stepAt}
+use Rattle.orders.specs.Orders.{stepsOf, orderJudged}
+use Rattle.orders.proofs.Judging.{Fit, good-fit, Judgement, judgement, gets-15 as judged-15, gets-16 as judged-16, gets-17 as judged-17, taken as judged-taken}
 use Rattle.steps.specs.Vector.{ranAlong, stepsVectorOf}
-use Rattle.steps.proofs.Engines.{AnyOrder, run-any-order, steps-number, engines-equal}
-use Rattle.bench.specs.Orders.{stepsOf, orderJudged}
-use Rattle.bench.specs.Bench.{Benched, benchOf}
-use Rattle.bench.specs.Allowed.{stepsIn, Doing, BenchGets, gets-vector, gets-15, gets-16, gets-17, gets-19, gets-18}
-use Rattle.bench.proofs.Judging.{Fit, good-fit, Judgement, judgement, gets-15 as judged-15, gets-16 as judged-16, gets-17 as judged-17, taken as judged-taken}
+use Rattle.steps.specs.AnyOrder.{AnyOrder}
+use Rattle.steps.proofs.Engines.{run-any-order, steps-number, engines-equal}
+use Rattle.bench.specs.Bench.{Benched, notDone, benchOf}
+use Rattle.bench.specs.Allowed.{stepCount, Doing, BenchGets, gets-vector, gets-15, gets-16, gets-17, gets-19, gets-18}
 use Rattle.bench.proofs.Benches.{bench-refuses, bench-refused, bench-answers, bench-proper, bench-others, bench-whole, bench-stays, bench-good}
-use Rattle.demands.specs.Operations.{Engine, fields, steps, vectorBy, Operation, load, rest, vector, history, list, records, ask, trace, bench, lentTo, outcome, Turn, afterBy}
-use Rattle.demands.proofs.Refusing.{Same, keeps}
+use Rattle.demands.specs.Operations.{Engine, fields, steps, vectorBy, Operation, load, rest, vector, history, list, records, ask, trace, bench, lentTo, outcome, Same, Turn, afterBy}
+use Rattle.demands.proofs.Refusing.{keeps}
 
 -- Demand 1. "Give the program a card or a vector of any kind, damaged ones too: it ends with a result or a numbered refusal. Nothing has to be checked
 -- beforehand. A refusal leaves the session and all lent room as they stood."
@@ -250,19 +250,19 @@ module _ (s : Session) (g : Good s) (rested : s .rested ≡ true) (v : List ℕ)
     given-same : given (s .kinds) v ≡ givenTo c v
     given-same = λ i n. given-card s card v n i
 
-    whole : length order ≡ stepsIn s
+    whole : length order ≡ stepCount s
     whole = good-fit c (card .accepted .free) (card-fits s card .pinned) order good .long
 
-    doing : stepsIn s ≤ length room → Doing s v order k room
+    doing : stepCount s ≤ length room → Doing s v order k room
     doing roomy = record { rested = rested; vector = fits; order-good = good; asked = omega (arith, whole); roomy = roomy }
 
     -- "It writes one byte for each step number: the step's value if it is among the first k, else 2."
     pub record BenchValues : Type 0 where
       pub done : benched .moved .answer ≡ Done k
       pub first : (e : ℕ) → e ∈ take k order → let step = stepAt (stepList c) e in getD (benched .room) e 0 ≡ val (ruled (step .net) (step .time))
-      pub others : (e : ℕ) → e < stepsIn s → ¬ (e ∈ take k order) → getD (benched .room) e 0 ≡ 2
+      pub others : (e : ℕ) → e < stepCount s → ¬ (e ∈ take k order) → getD (benched .room) e 0 ≡ notDone
 
-    pub demand-3-bench-values : stepsIn s ≤ length room → BenchValues
+    pub demand-3-bench-values : stepCount s ≤ length room → BenchValues
     demand-3-bench-values roomy = record {
       done = bench-answers s g v order k room (doing roomy);
       first = λ e m. let step = stepAt (stepList c) e in bench-proper s g v order k room (doing roomy) e m ∙ ap (λ new. val (value c (ends s) new (step .net) (step .time))) given-same;
@@ -276,7 +276,7 @@ module _ (s : Session) (g : Good s) (rested : s .rested ≡ true) (v : List ℕ)
       pub before : (n : ℕ) → n < s .nets → getD (benched .moved .session .before) n false ≡ ends s n
       pub count : (m : ℕ) × (benched .moved .answer ≡ Done m) × Number (Joined c) m
 
-    pub demand-3-bench-whole : stepsIn s ≤ length room → k ≡ length order → BenchWhole
+    pub demand-3-bench-whole : stepCount s ≤ length room → k ≡ length order → BenchWhole
     demand-3-bench-whole roomy all =
         let left = bench-whole s g v order k room (doing roomy) (all ∙ whole) in
         let same : benched .moved .session ≡ vectorOf s v .session = ap (λ m. m .session) left ∙ sym (ap (λ m. m .session) (vector-takes s v rested fits)) in
@@ -284,7 +284,7 @@ module _ (s : Session) (g : Good s) (rested : s .rested ≡ true) (v : List ℕ)
           as-vector = same;
           history = λ n l t b. ap (λ x. bit (getD (x .words) n 0) t) same ∙ vector-rule s g rested v fits n l .0 t b ∙ ap (λ new. value c (ends s) new n t) given-same;
           before = λ n l. ap (λ x. getD (x .before) n false) same ∙ vector-rule s g rested v fits n l .1;
-          count = (stepsIn s, ap (λ m. m .answer) left, list-number c (card .accepted .free) (card-fits s card .pinned));
+          count = (stepCount s, ap (λ m. m .answer) left, list-number c (card .accepted .free) (card-fits s card .pinned));
         }
 
     -- "The session moves only when k is the whole list": for a smaller k it stays

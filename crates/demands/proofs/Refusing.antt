@@ -15,30 +15,22 @@ use Rattle.rule.specs.declared.NetAnswer.the-variants.{Net as Known, Refused as
 use Rattle.wiring.specs.declared.Verdict.{Verdict}
 use Rattle.wiring.specs.declared.Verdict.the-variants.{Refused as Faulty, Passed}
 use Rattle.wiring.specs.Wired.{wiredOf}
+use Rattle.inputs.specs.Inputs.{given, vectorFits}
 use Rattle.records.specs.Scan.{Meaning, Stops, Means, meaning}
 use Rattle.card.specs.declared.Session.{Session}
 use Rattle.card.specs.Session.{inputsOf, cardOf}
 use Rattle.card.specs.Load.{refusal, concluded, judged, loadMeant, loadOf}
 use Rattle.card.specs.Asked.{netAsked}
-use Rattle.session.specs.Inputs.{given, vectorFits}
 use Rattle.session.specs.Moves.{refusedMove, moving, restOf, vectorOf}
 use Rattle.history.specs.Told.{Told, historyOf}
 use Rattle.history.specs.Traced.{Traced, changedThen, traceOf}
-use Rattle.steps.specs.Listing.{Listed, listOf}
+use Rattle.orders.specs.Orders.{orderJudged}
+use Rattle.listing.specs.Listing.{Listed, listOf}
 use Rattle.steps.specs.Vector.{stepsVectorOf}
 use Rattle.step_records.specs.declared.StepRecord.{StepRecord}
 use Rattle.step_records.specs.Records.{Answered, recordsOf}
-use Rattle.bench.specs.Orders.{orderJudged}
 use Rattle.bench.specs.Bench.{benchRefused, benchDone, benchOrder, benchVector, benchOf}
-use Rattle.demands.specs.Operations.{Engine, fields, steps, Operation, load, rest, vector, history, list, records, ask, trace, bench, Lent, slices, lentTo, Outcome, answered, told, outcome}
-
--- a number other than 0 means: count 0, level and word 0, the same session, the same lent room
-pub record Same (s : Session) (lent : Lent) (o : Outcome) : Type 0 where
-  pub count : o .count ≡ 0
-  pub level : o .level ≡ 0
-  pub word : o .word ≡ 0
-  pub session : o .session ≡ s
-  pub room : o .lent ≡ lent
+use Rattle.demands.specs.Operations.{Engine, fields, steps, Operation, load, rest, vector, history, list, records, ask, trace, bench, Lent, slices, lentTo, Outcome, answered, told, outcome, Same}
 
 abbrev Refusing : Session → Lent → Outcome → Type 0
 Refusing s lent o = ¬ (o .number ≡ 0) → Same s lent o
@@ -53,7 +45,7 @@ load-keeps : (s : Session) (b : List ℕ) → Refusing s (slices []) (outcome s 
 unfolding loadOf judged
 load-keeps s b = by-meaning (meaning b)
   where
-    by-verdict : (c : List Net) (t : Bool) (w : Verdict) → let l = cond t (refusal s NoInput) (concluded s c w) in Refusing s (slices []) (answered (l .answer) (l .session) (slices []))
+    by-verdict : (c : List Net) (t : Bool) (w : Verdict) → let l = cond t (refusal s NoInput) (concluded s c (length c) w) in Refusing s (slices []) (answered (l .answer) (l .session) (slices []))
     by-verdict c true w = refuses NoInput
     by-verdict c false (Faulty why) = refuses why
     by-verdict c false Passed = does (length c)

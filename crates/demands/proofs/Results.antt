@@ -21,17 +21,17 @@ use Rattle.session.proofs.rest as rest-fn
 use Rattle.session.proofs.vector as vector-fn
 use Rattle.history.proofs.history as history-fn
 use Rattle.history.proofs.trace as trace-fn
-use Rattle.steps.proofs.list as list-fn
+use Rattle.listing.proofs.list as list-fn
 use Rattle.steps.proofs.vector_steps as steps-fn
 use Rattle.step_records.proofs.list_records as records-fn
 use Rattle.bench.proofs.bench as bench-fn
 use Rattle.sheet_text.specs.declared.Sheet.{Sheet}
 use Rattle.sheet_text.specs.Pieces.{Standing, pieceOf, Written, written}
 use Rattle.sheet_text.proofs.next as next-fn
+use Rattle.host.specs.Vectors.{ManyShown, hostVectors}
 use Rattle.host.specs.declared.Move.{Move}
 use Rattle.host.specs.declared.Move.the-variants.{Load, Rest, Vector, Steps}
 use Rattle.host.specs.Calls.{Hosted, hostMove, Shown, hostHistory}
-use Rattle.host.specs.Many.{Shown as ManyShown, hostVectors}
 use Rattle.host.proofs.krasvome_load as host-load-fn
 use Rattle.host.proofs.krasvome_rest as host-rest-fn
 use Rattle.host.proofs.krasvome_vector as host-vector-fn

@@ -1,4 +1,4 @@
--- Every public operation, by its own definition: what it is given, and what it hands back of number, count, session and lent room. Assumes nothing.
+-- Every operation on a session, by its own definition: what it is given, and what it hands back of number, count, session and lent room. Assumes nothing.
 use mathlib.Core.Path.{_≡_}
 use mathlib.Core.List.{List, [], _∷_}
 use Prim.Native.Nat.{ℕ}
@@ -13,13 +13,13 @@ use Rattle.session.specs.declared.Moved.{Moved}
 use Rattle.session.specs.Moves.{restOf, vectorOf}
 use Rattle.history.specs.Told.{Told, historyOf}
 use Rattle.history.specs.Traced.{Traced, traceOf}
-use Rattle.steps.specs.Listing.{Listed, listOf}
+use Rattle.listing.specs.Listing.{Listed, listOf}
 use Rattle.steps.specs.Vector.{stepsVectorOf}
 use Rattle.step_records.specs.declared.StepRecord.{StepRecord}
 use Rattle.step_records.specs.Records.{Answered, recordsOf}
 use Rattle.bench.specs.Bench.{Benched, benchOf}
 
--- "both engines, the step list and the bit-fields"
+-- "both engines, the step list and the bit-fields" (demand 2)
 pub data Engine : Type 0 where
   fields : Engine
   steps : Engine
@@ -126,3 +126,11 @@ pub record Turn : Type 0 where
 unfoldable pub afterBy : Session → List Turn → Session
 afterBy s [] = s
 afterBy s (t ∷ ts) = afterBy (vectorBy (t .engine) s (t .given) .session) ts
+
+-- "Every refusal returns its number and count 0, and changes neither session nor lent memory." Level and word are 0 too
+pub record Same (s : Session) (lent : Lent) (o : Outcome) : Type 0 where
+  pub count : o .count ≡ 0
+  pub level : o .level ≡ 0
+  pub word : o .word ≡ 0
+  pub session : o .session ≡ s
+  pub room : o .lent ≡ lent

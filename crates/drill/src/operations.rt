@@ -151,7 +151,7 @@ fn put_list(
 ) -> usize
     requires { ⌜ Kept session ⌝ }
 {
-    let answer = steps::list(session, nets, times);
+    let answer = listing::list(session, nets, times);
     let head = put_answer(out, at, answer);
     let first = put_nets(out, head, nets);
     put_bytes(out, first, times)

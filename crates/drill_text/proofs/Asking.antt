@@ -1,43 +1,13 @@
--- The laws of a line: two texts compared from a place on, and what so many words ask for. Assumes nothing.
-use mathlib.Core.Path.{_≡_, refl, ap, _∙_}
-use mathlib.Core.Bool.{Bool, true, false, cond}
+-- The laws of a line: what so many words ask for. Assumes nothing.
+use mathlib.Core.Path.{_≡_, refl, _∙_}
 use mathlib.Core.List.{List, [], _∷_}
-use Prim.Native.Nat.{ℕ, suc, _+_, _≤_, _<_}
+use Prim.Native.Nat.{ℕ, _≤_, _<_}
 use native.Mathlib.Omega.{arith}
-use lib.Dec.{eqb}
-use lib.ListN.{length, getD, drop, drop-of-length-le}
-use borrow.Author.Tests.{eq-eqb, ne-eqb, lt-ltb, le-ltb}
+use lib.ListN.{length, getD}
+use borrow.Author.Tests.{lt-ltb, le-ltb}
 use Rattle.drill_text.specs.declared.Command.the-variants.{Bad}
 use Rattle.drill_text.specs.Parts.{words}
-use Rattle.drill_text.specs.Lines.{sameText, withOne, withTwo, withThree, withFour, asked, commandOf}
-use Rattle.drill_text.proofs.Parted.{drop-next}
-
--- two texts
-
-pub same-lengths : (a b : List ℕ) → (length a ≡ length b → ⊥) → sameText a b ≡ false
-unfolding sameText
-same-lengths [] [] h = absurd (h refl)
-same-lengths [] (y ∷ ys) h = refl
-same-lengths (x ∷ xs) [] h = refl
-same-lengths (x ∷ xs) (y ∷ ys) h = go (eqb x y) (same-lengths xs ys (λ e. h (ap suc e)))
-  where
-    go : (t : Bool) → sameText xs ys ≡ false → cond t (sameText xs ys) false ≡ false
-    go true e = e
-    go false e = refl
-
-module _ (a b : List ℕ) (i : ℕ) where
-  pub same-end : length a ≤ i → length b ≤ i → sameText (drop i a) (drop i b) ≡ true
-  unfolding sameText
-  same-end l m = rw (drop-of-length-le a l, drop-of-length-le b m)
-
-  module _ (l : i < length a) (m : i < length b) where
-    pub same-stop : (getD a i 0 ≡ getD b i 0 → ⊥) → sameText (drop i a) (drop i b) ≡ false
-    unfolding sameText
-    same-stop h = rw (drop-next a i l, drop-next b i m, ne-eqb (getD a i 0) (getD b i 0) h)
-
-    pub same-on : getD a i 0 ≡ getD b i 0 → sameText (drop i a) (drop i b) ≡ sameText (drop (i + 1) a) (drop (i + 1) b)
-    unfolding sameText
-    same-on h = rw (drop-next a i l, drop-next b i m, eq-eqb (getD a i 0) (getD b i 0) h)
+use Rattle.drill_text.specs.Lines.{withOne, withTwo, withThree, withFour, asked, commandOf}
 
 -- what so many words ask for
 

@@ -8,6 +8,7 @@ use native.Mathlib.Omega.{arith}
 use lib.Dec.{leb, ltb}
 use lib.ListN.{length}
 use borrow.Author.Tests.{leb-true}
+use Rattle.text.specs.Text.{sameText}
 use Rattle.drill_text.specs.declared.Number.{Number}
 use Rattle.drill_text.specs.declared.Number.the-variants.{Spelled, Unreadable}
 use Rattle.drill_text.specs.declared.Command.{Command}
@@ -15,8 +16,22 @@ use Rattle.drill_text.specs.declared.Command.the-variants.{Bad, Load, Re
 use Rattle.drill_text.specs.Parts.{words}
 use Rattle.drill_text.specs.Digits.{limited, numberOf, roomOf, isHex}
 use Rattle.drill_text.specs.Orders.{isOrder}
-use Rattle.drill_text.specs.Lines.{sameText, load, rest, vector, steps, history, list, records, net, trace, bench, ifHex, recordsOf, netOf, listOf, historyOf, traceOf, benchOf, withOne, withTwo, withThree, withFour, asked, commandOf, RoomsFit}
+use Rattle.drill_text.specs.Lines.{load, rest, vector, steps, history, list, records, net, trace, bench, ifHex, recordsOf, netOf, listOf, historyOf, traceOf, benchOf, withOne, withTwo, withThree, withFour, asked, commandOf}
 use Rattle.drill_text.proofs.Asking.{line-long}
+
+-- every room that a command asks for has at most 20,000 entries
+abbrev pub RoomsFit : Command → Type 0
+RoomsFit Bad = Unit
+RoomsFit Load = Unit
+RoomsFit Rest = Unit
+RoomsFit Vector = Unit
+RoomsFit Steps = Unit
+RoomsFit (History words befores flags) = (words ≤ 20000) × (befores ≤ 20000) × (flags ≤ 20000)
+RoomsFit (Steplist nets times) = (nets ≤ 20000) × (times ≤ 20000)
+RoomsFit (Records room) = room ≤ 20000
+RoomsFit (Net n) = Unit
+RoomsFit (Trace n t room) = room ≤ 20000
+RoomsFit (Bench k room) = room ≤ 20000
 
 -- a room's length, if it was read
 

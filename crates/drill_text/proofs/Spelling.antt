@@ -7,9 +7,9 @@ use native.Mathlib.Decide.{decLe}
 use native.Mathlib.Omega.{arith}
 use lib.ListN.{length, getD, drop, drop-of-length-le}
 use borrow.Author.Tests.{lt-ltb, le-ltb, ne-eqb}
+use Rattle.text.proofs.Texts.{drop-next}
 use Rattle.drill_text.specs.declared.Number.the-variants.{Spelled, Unreadable}
 use Rattle.drill_text.specs.Digits.{digitOf, spelledFrom, numberOf, allDigits, byteOf, bytesOf}
-use Rattle.drill_text.proofs.Parted.{drop-next}
 
 -- a number
 

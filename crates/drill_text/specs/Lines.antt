@@ -1,9 +1,10 @@
 -- What a line asks for. Assumes nothing.
-use mathlib.Core.Bool.{Bool, true, false, cond}
+use mathlib.Core.Bool.{cond}
 use mathlib.Core.List.{List, [], _∷_}
-use Prim.Native.Nat.{ℕ, _≤_}
-use lib.Dec.{eqb, ltb}
+use Prim.Native.Nat.{ℕ}
+use lib.Dec.{ltb}
 use lib.ListN.{length}
+use Rattle.text.specs.Text.{sameText}
 use Rattle.drill_text.specs.declared.Number.{Number}
 use Rattle.drill_text.specs.declared.Number.the-variants.{Spelled, Unreadable}
 use Rattle.drill_text.specs.declared.Command.{Command}
@@ -11,13 +12,6 @@ use Rattle.drill_text.specs.declared.Command.the-variants.{Bad, Load, Re
 use Rattle.drill_text.specs.Parts.{words}
 use Rattle.drill_text.specs.Digits.{numberOf, roomOf, isHex}
 use Rattle.drill_text.specs.Orders.{isOrder}
-
--- two texts are the same
-unfoldable pub sameText : List ℕ → List ℕ → Bool
-sameText [] [] = true
-sameText [] (y ∷ ys) = false
-sameText (x ∷ xs) [] = false
-sameText (x ∷ xs) (y ∷ ys) = cond (eqb x y) (sameText xs ys) false
 
 -- the names of the operations, in ASCII
 
@@ -123,17 +117,3 @@ asked (name ∷ a ∷ b ∷ c ∷ d ∷ e ∷ es) = Bad
 -- "a line to 140,000 bytes"; "A line that is none of these answers `?` and changes nothing."
 unfoldable pub commandOf : List ℕ → Command
 commandOf line = cond (ltb 140000 (length line)) Bad (asked (words line))
-
--- every room that a command asks for has at most 20,000 entries
-abbrev pub RoomsFit : Command → Type 0
-RoomsFit Bad = Unit
-RoomsFit Load = Unit
-RoomsFit Rest = Unit
-RoomsFit Vector = Unit
-RoomsFit Steps = Unit
-RoomsFit (History words befores flags) = (words ≤ 20000) × (befores ≤ 20000) × (flags ≤ 20000)
-RoomsFit (Steplist nets times) = (nets ≤ 20000) × (times ≤ 20000)
-RoomsFit (Records room) = room ≤ 20000
-RoomsFit (Net n) = Unit
-RoomsFit (Trace n t room) = room ≤ 20000
-RoomsFit (Bench k room) = room ≤ 20000

@@ -1,6 +1,6 @@
 // A line as a command.
 ghost use mathlib.Core.Path.{_≡_};
-ghost use Rattle.drill_text.specs.Lines.{sameText, ifHex, recordsOf, netOf, listOf, historyOf, traceOf, benchOf, withOne, withTwo, withThree, withFour, commandOf};
+ghost use Rattle.drill_text.specs.Lines.{ifHex, recordsOf, netOf, listOf, historyOf, traceOf, benchOf, withOne, withTwo, withThree, withFour, commandOf};
 use crate::Command;
 use crate::Number;
 use crate::digits::is_hex;
@@ -9,23 +9,6 @@ use crate::digits::room_of;
 use crate::orders::is_order;
 use crate::parts::word;
 use crate::parts::word_count;
-
-// Whether two texts are the same.
-fn same(a: &[u8], b: &[u8]) -> bool
-    ensures { λ r. ⌜ r ≡ sameText (now (a .entry)) (now (b .entry)) ⌝ }
-{
-    if a.len() != b.len() {
-        return false;
-    }
-    let mut i: usize = 0;
-    while i < a.len() {
-        if a[i] != b[i] {
-            return false;
-        }
-        i += 1;
-    }
-    true
-}
 
 // A command that takes bytes, if they are bytes.
 fn if_hex(word: &[u8], then: Command) -> Command
@@ -116,22 +99,22 @@ fn bench_of(k: Number, room: Number) -> Command
 fn with_one(name: &[u8], a: &[u8]) -> Command
     ensures { λ r. ⌜ r ≡ withOne (now (name .entry)) (now (a .entry)) ⌝ }
 {
-    if same(name, b"load") {
+    if text::same(name, b"load") {
         return if_hex(a, Command::Load);
     }
-    if same(name, b"rest") {
+    if text::same(name, b"rest") {
         return if_hex(a, Command::Rest);
     }
-    if same(name, b"vector") {
+    if text::same(name, b"vector") {
         return if_hex(a, Command::Vector);
     }
-    if same(name, b"steps") {
+    if text::same(name, b"steps") {
         return if_hex(a, Command::Steps);
     }
-    if same(name, b"records") {
+    if text::same(name, b"records") {
         return records_of(room_of(a));
     }
-    if same(name, b"net") {
+    if text::same(name, b"net") {
         return net_of(number_of(a));
     }
     Command::Bad
@@ -141,7 +124,7 @@ fn with_one(name: &[u8], a: &[u8]) -> Command
 fn with_two(name: &[u8], a: &[u8], b: &[u8]) -> Command
     ensures { λ r. ⌜ r ≡ withTwo (now (name .entry)) (now (a .entry)) (now (b .entry)) ⌝ }
 {
-    if same(name, b"list") {
+    if text::same(name, b"list") {
         return list_of(room_of(a), room_of(b));
     }
     Command::Bad
@@ -151,10 +134,10 @@ fn with_two(name: &[u8], a: &[u8], b: &[u8]) -> Command
 fn with_three(name: &[u8], a: &[u8], b: &[u8], c: &[u8]) -> Command
     ensures { λ r. ⌜ r ≡ withThree (now (name .entry)) (now (a .entry)) (now (b .entry)) (now (c .entry)) ⌝ }
 {
-    if same(name, b"history") {
+    if text::same(name, b"history") {
         return history_of(room_of(a), room_of(b), room_of(c));
     }
-    if same(name, b"trace") {
+    if text::same(name, b"trace") {
         return trace_of(number_of(a), number_of(b), room_of(c));
     }
     Command::Bad
@@ -164,7 +147,7 @@ fn with_three(name: &[u8], a: &[u8], b: &[u8], c: &[u8]) -> Command
 fn with_four(name: &[u8], a: &[u8], b: &[u8], c: &[u8], d: &[u8]) -> Command
     ensures { λ r. ⌜ r ≡ withFour (now (name .entry)) (now (a .entry)) (now (b .entry)) (now (c .entry)) (now (d .entry)) ⌝ }
 {
-    if !same(name, b"bench") {
+    if !text::same(name, b"bench") {
         return Command::Bad;
     }
     if !is_hex(a) {

@@ -22,22 +22,23 @@ use Rattle.rule.specs.Run.{made, step, run, ready}
 use Rattle.rule.specs.Steps.{readAt as readStep, stepReads, gateOrder, netSteps, stepList}
 use Rattle.wiring.specs.Layout.{kindsOf, typesOf, countsOf, placesOf, cardIn}
 use Rattle.wiring.specs.Wired.{pinsFit, mostBack, wiredOf, setWords}
+use Rattle.inputs.specs.Inputs.{rank, given, vectorFits}
+use Rattle.fields.specs.Fields.{startAt}
 use Rattle.records.specs.Bytes.{u16At, kindFits, typeFits, bodyFits, netRecord, recordAt, readAt}
 use Rattle.records.specs.Scan.{netMeant, scan}
 use Rattle.records.specs.Written.{netBytes, cardBytes}
 use Rattle.card.specs.Session.{none, inputsOf, sessionOf, cardOf}
 use Rattle.card.specs.Load.{judged, loadOf}
 use Rattle.card.specs.Asked.{netAsked}
-use Rattle.session.specs.Fields.{startAt}
-use Rattle.session.specs.Inputs.{rank, given, vectorFits}
 use Rattle.session.specs.Good.{histories}
 use Rattle.session.specs.Moves.{ends, movedBy, vectorOf, settled, restedBy, restOf}
 use Rattle.history.specs.Told.{historyOf}
 use Rattle.history.specs.Traced.{wayBack, traceOf}
-use Rattle.steps.specs.Variables.{heldIn, wordsOf, readIn, stepIn, ran, historyOf as historyWord, historiesFrom}
-use Rattle.steps.specs.Listing.{listOf}
+use Rattle.variables.specs.Variables.{heldIn, wordsOf, readIn, stepIn, historyOf as historyWord, historiesFrom}
+use Rattle.orders.specs.Orders.{entriesFit, orderReady, orderJudged}
+use Rattle.listing.specs.Listing.{listOf}
+use Rattle.steps.specs.Runs.{ran}
 use Rattle.steps.specs.Vector.{startVars, ranAlong, ranSession, stepsVectorOf}
-use Rattle.bench.specs.Orders.{entriesFit, orderReady, orderJudged}
 use Rattle.bench.specs.Bench.{notDone, benchDone, benchOf}
 use Rattle.text.specs.Text.{digitsIn, decimal}
 use Rattle.sheet_text.specs.Lines.{refusedLine, firstLine, values, netLine, cardText, historyLine, vectorText}

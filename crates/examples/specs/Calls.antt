@@ -12,7 +12,7 @@ pub data Call : Type 0 where
   does : Operation → Call
   print : List ℕ → Call
 
--- the number, the count, and every lent room after the call; of a question about a net its level and word, of the sheet program what it prints
+-- the number, the count, and every lent room of numbers after the call; of a question about a net its level and word, of the sheet program what it prints
 pub record Reply : Type 0 where
   pub number : ℕ
   pub count : ℕ

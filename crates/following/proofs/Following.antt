@@ -8,6 +8,7 @@ use native.Mathlib.Omega.{arith}
 use lib.Dec.{ltb, leb, lit<, lit≤}
 use lib.ListN.{length, getD}
 use Rattle.lists.specs.Entries.{_∈_}
+use Rattle.lists.proofs.Places.{clear-make}
 use Rattle.rule.specs.Steps.{stepList}
 use Rattle.rule.specs.declared.Refusal.the-variants.{NotReady, NoRoom}
 use Rattle.rule.specs.declared.Answer.{Answer}
@@ -15,6 +16,7 @@ use Rattle.rule.specs.declared.Answer.the-variants.{Done, Refused}
 use Rattle.rule.specs.Numbers.{answerNumber, answerCount}
 use Rattle.wiring.specs.declared.Verdict.{Verdict}
 use Rattle.wiring.specs.declared.Verdict.the-variants.{Refused as Faulty, Passed}
+use Rattle.inputs.specs.Inputs.{given, vectorFits}
 use Rattle.records.specs.Written.{Bytes}
 use Rattle.card.specs.declared.Session.{Session}
 use Rattle.card.specs.declared.Loaded.{Loaded}
@@ -24,22 +26,20 @@ use Rattle.card.proofs.Kept.{nets-are, card-fits, card-steps}
 use Rattle.card.proofs.Verdicts.{ruled as load-ruled, Ruling as LoadRuling, refuses as load-refuses, takes as load-takes}
 use Rattle.session.specs.declared.Moved.{Moved}
 use Rattle.session.specs.Good.{Good}
-use Rattle.session.specs.Inputs.{given, vectorFits}
 use Rattle.session.specs.Moves.{refusedMove, moving, movedBy, vectorOf, restedBy, restOf}
 use Rattle.session.proofs.Refusals.{Ruling, refuses, takes, rest-ruled, vector-ruled}
 use Rattle.history.specs.Told.{Told, historyOf}
 use Rattle.history.proofs.Histories.{history-refused}
-use Rattle.steps.specs.Variables.{Ran}
+use Rattle.steps.specs.Runs.{Ran}
 use Rattle.steps.specs.Vector.{ranAlong, ranSession, stepsVectorOf}
 use Rattle.steps.proofs.Engines.{run-count, engines-equal}
+use Rattle.making.specs.Made.{madeAgain}
+use Rattle.making.proofs.Making.{again-good}
 use Rattle.host.specs.declared.Move.{Move}
 use Rattle.host.specs.declared.Move.the-variants.{Load, Rest, Vector, Steps}
-use Rattle.host.specs.Made.{madeAgain}
 use Rattle.host.specs.Calls.{packed, operated, Hosted, Shown, leftBy, hostMove, hostHistory}
-use Rattle.following.specs.Following.{Holding, Call, bytesAfter, sessionAfter, hostAnswers, libraryAnswers}
-use Rattle.host.proofs.Places.{clear-make}
-use Rattle.host.proofs.Making.{again-good}
 use Rattle.host.proofs.Answering.{move-left, history-shown}
+use Rattle.following.specs.Following.{Holding, Call, bytesAfter, sessionAfter, hostAnswers, libraryAnswers}
 use Rattle.following.proofs.Opened.{Kept, keeps-none, opened, closed}
 use Rattle.following.proofs.Leaving.{load-holds, rest-holds, vector-holds}
 

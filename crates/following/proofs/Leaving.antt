@@ -6,22 +6,22 @@ use Prim.Native.Nat.{ℕ, _+_, _≤_}
 use native.Mathlib.Omega.{arith}
 use lib.Dec.{lit<}
 use lib.ListN.{length, getD, List·getD-eq-default}
+use Rattle.lists.specs.Places.{part, clear}
 use Rattle.lists.proofs.Bools.{and-both}
 use Rattle.rule.specs.Net.{Net}
+use Rattle.inputs.specs.Inputs.{given}
+use Rattle.inputs.specs.Allowed.{Vector}
 use Rattle.records.specs.Bytes.{u16At}
 use Rattle.records.specs.Written.{Bytes}
 use Rattle.card.specs.declared.Session.{Session}
 use Rattle.card.specs.Session.{none, sessionOf, cardOf}
 use Rattle.card.specs.Allowed.{Allowed}
 use Rattle.card.proofs.Kept.{session-holds}
-use Rattle.session.specs.Inputs.{given}
 use Rattle.session.specs.Moves.{movedBy, restedBy}
-use Rattle.session.specs.Allowed.{Vector}
-use Rattle.host.specs.Places.{part, clear, lastRoom}
-use Rattle.host.specs.Calls.{keptCard, keptRest, keptVector}
+use Rattle.keeping.specs.Kept.{lastRoom, keptCard, keptRest, keptVector}
+use Rattle.keeping.proofs.Bytes.{room-bytes, one-byte, zero-byte}
+use Rattle.making.proofs.Making.{inputs-few}
 use Rattle.following.specs.Following.{Holding}
-use Rattle.host.proofs.Places.{room-bytes, one-byte, zero-byte}
-use Rattle.host.proofs.Making.{inputs-few}
 use Rattle.following.proofs.Rooms.{card-long, card-bytes, card-state, card-fitting, card-length, card-clear, card-part, rooms, rooms-long, rooms-bytes, rooms-state, rooms-length, rooms-clear, rooms-card, rooms-fit, rooms-given, room-moved, room-ends}
 use Rattle.following.proofs.Sizes.{card-size}
 use Rattle.following.proofs.Restarts.{moved-again}

@@ -5,3 +5,4 @@ pub mod Opened
 pub mod Leaving
 pub mod Following
 pub mod Singles
+pub mod Unleft

@@ -8,26 +8,27 @@ use native.Mathlib.Omega.{arith}
 use lib.Dec.{eqb, ltb}
 use lib.ListN.{length, getD}
 use borrow.Author.Tests.{eqb-true, ltb-false}
+use Rattle.lists.specs.Places.{part, clear}
 use Rattle.lists.proofs.Bools.{yes-or-no}
 use Rattle.rule.specs.Net.{Net}
 use Rattle.rule.specs.declared.Answer.the-variants.{Done}
+use Rattle.inputs.specs.Inputs.{given}
+use Rattle.inputs.specs.Allowed.{Vector}
 use Rattle.records.specs.Bytes.{u16At}
 use Rattle.records.specs.Written.{Bytes, cardBytes}
 use Rattle.card.specs.declared.Session.{Session}
 use Rattle.card.specs.declared.Loaded.{Loaded}
 use Rattle.card.specs.Session.{none, sessionOf}
-use Rattle.card.specs.Load.{loadOf}
+use Rattle.card.specs.Load.{loadOf, taken}
 use Rattle.card.specs.Allowed.{Accepted}
-use Rattle.card.proofs.Verdicts.{taken, load-takes, ruled as load-ruled, Ruling as LoadRuling, refuses as load-refuses, takes as load-allows}
+use Rattle.card.proofs.Verdicts.{load-takes, ruled as load-ruled, Ruling as LoadRuling, refuses as load-refuses, takes as load-allows}
 use Rattle.session.specs.declared.Moved.{Moved}
-use Rattle.session.specs.Inputs.{given}
 use Rattle.session.specs.Moves.{movedBy, vectorOf, restedBy, restOf}
-use Rattle.session.specs.Allowed.{Vector}
 use Rattle.session.proofs.Refusals.{Ruling, refuses, takes, rest-ruled, rest-takes, vector-ruled, vector-takes}
-use Rattle.host.specs.declared.Made.{Made}
-use Rattle.host.specs.Places.{part, clear}
-use Rattle.host.specs.Made.{broken, done, held, madeBy, fitting, madePlain, madeRested, madeMoved, madeCard, madeLoaded, madeAgain}
-use Rattle.host.proofs.Making.{by-done, plain-is, rested-is, moved-is, card-1, card-2, card-3, loaded-is, again-none, again-loaded, part-bytes}
+use Rattle.keeping.proofs.Bytes.{part-bytes}
+use Rattle.making.specs.declared.Made.{Made}
+use Rattle.making.specs.Made.{broken, done, held, madeBy, fitting, madePlain, madeRested, madeMoved, madeCard, madeLoaded, madeAgain}
+use Rattle.making.proofs.Making.{by-done, plain-is, rested-is, moved-is, card-1, card-2, card-3, loaded-is, again-none, again-loaded}
 
 -- the bytes carry a card
 pub record Carried (b : List ℕ) (c : List Net) : Type 0 where
@@ -76,7 +77,7 @@ both-taken c v w h = vector-takes (atRest c v) w refl h
 -- Bytes that say so hold the session
 
 module _ (b : List ℕ) (h : Bytes b) where
-  carries : (c : List Net) → Carried b c → loadOf none (part b 515 (u16At b 1)) ≡ taken c
+  pub carries : (c : List Net) → Carried b c → loadOf none (part b 515 (u16At b 1)) ≡ taken c
   carries c k =
       load-takes none (part b 515 (u16At b 1)) (part-bytes b h 515 (u16At b 1)) (record { card = c; bytes = k .bytes; accepted = k .accepted })
 

@@ -7,13 +7,14 @@ use Prim.Native.Nat.{ℕ, zero, suc, _+_, _-_, _*_, _/_, _%_, _≤_, _<_}
 use native.Mathlib.Omega.{arith}
 use lib.Dec.{lit<, lit≤}
 use lib.ListN.{length, getD, List·getD-eq-default}
+use Rattle.lists.specs.Places.{part, clear, area}
 use Rattle.lists.proofs.Bools.{and-make}
+use Rattle.lists.proofs.Places.{clear-at, clear-make, length-area, area-in, area-out, part-same, part-whole}
 use Rattle.records.specs.Bytes.{u16At}
 use Rattle.records.specs.Written.{Bytes}
-use Rattle.host.specs.Places.{part, clear, area, lastRoom}
-use Rattle.host.specs.Made.{fitting}
-use Rattle.host.specs.Calls.{keptCard, keptRest, keptVector}
-use Rattle.host.proofs.Places.{clear-at, clear-make, length-area, area-in, area-out, part-same, part-whole, area-bytes, room-at, one-byte, zero-byte}
+use Rattle.keeping.specs.Kept.{lastRoom, keptCard, keptRest, keptVector}
+use Rattle.keeping.proofs.Bytes.{area-bytes, room-at, one-byte, zero-byte}
+use Rattle.making.specs.Made.{fitting}
 
 -- A card that was just loaded
 
@@ -33,6 +34,10 @@ module _ (b v : List ℕ) (long : 5895 ≤ length b) where
   emptied-long : 5895 ≤ length emptied
   emptied-long = omega (arith, headed-long, length-area headed 3 515 (0 ∷ []))
 
+  pub length-card : length (keptCard b v) ≡ length b
+  unfolding keptCard
+  length-card = length-area emptied 515 5895 v ∙ length-area headed 3 515 (0 ∷ []) ∙ length-area b 0 3 head
+
   pub card-long : 5895 ≤ length (keptCard b v)
   unfolding keptCard
   card-long = omega (arith, emptied-long, length-area emptied 515 5895 v)
@@ -47,7 +52,7 @@ module _ (b v : List ℕ) (long : 5895 ≤ length b) where
   unfolding keptCard
   card-bytes h k = area-bytes emptied 515 5895 v (area-bytes headed 3 515 (0 ∷ []) (area-bytes b 0 3 head h head-bytes) (one-byte 0 (lit< tt))) k
 
-  card-head : (i : ℕ) → i < 3 → getD (keptCard b v) i 0 ≡ getD head (i - 0) 0
+  pub card-head : (i : ℕ) → i < 3 → getD (keptCard b v) i 0 ≡ getD head (i - 0) 0
   unfolding keptCard
   card-head i l =
       let e = emptied-long in
@@ -55,16 +60,24 @@ module _ (b v : List ℕ) (long : 5895 ≤ length b) where
       area-out emptied 515 5895 v i (inl (omega arith)) (omega arith) ∙ area-out headed 3 515 (0 ∷ []) i (inl l) (omega arith)
       ∙ area-in b 0 3 head i (omega arith) (omega arith) l
 
-  card-none : (i : ℕ) → 3 ≤ i → i < 515 → getD (keptCard b v) i 0 ≡ 0
+  pub card-none : (i : ℕ) → 3 ≤ i → i < 515 → getD (keptCard b v) i 0 ≡ 0
   unfolding keptCard
   card-none i l u =
       let e = emptied-long in
       let h = headed-long in
       area-out emptied 515 5895 v i (inl u) (omega arith) ∙ area-in headed 3 515 (0 ∷ []) i (omega arith) l u ∙ zero-byte (i - 3)
 
-  card-at : (i : ℕ) → 515 ≤ i → i < 5895 → getD (keptCard b v) i 0 ≡ getD v (i - 515) 0
+  pub card-at : (i : ℕ) → 515 ≤ i → i < 5895 → getD (keptCard b v) i 0 ≡ getD v (i - 515) 0
   unfolding keptCard
   card-at i l u = area-in emptied 515 5895 v i emptied-long l u
+
+  pub card-past : (i : ℕ) → 5895 ≤ i → i < length b → getD (keptCard b v) i 0 ≡ getD b i 0
+  unfolding keptCard
+  card-past i l u =
+      let h = length-area b 0 3 head in
+      let e = length-area headed 3 515 (0 ∷ []) in
+      area-out emptied 515 5895 v i (inr l) (omega arith) ∙ area-out headed 3 515 (0 ∷ []) i (inr (omega arith)) (omega arith)
+      ∙ area-out b 0 3 head i (inr (omega arith)) u
 
   pub card-state : getD (keptCard b v) 0 0 ≡ 1
   card-state = card-head 0 (lit< tt)
@@ -105,6 +118,9 @@ module _ (b : List ℕ) (k : ℕ) (o v : List ℕ) where
   abbrev pub rooms : List ℕ
   rooms = area older 259 515 v
 
+  pub length-rooms : length rooms ≡ length b
+  length-rooms = length-area older 259 515 v ∙ length-area stated 3 259 o ∙ length-area b 0 1 (k ∷ [])
+
   module _ (long : 5895 ≤ length b) where
     stated-long : 5895 ≤ length stated
     stated-long = omega (arith, length-area b 0 1 (k ∷ []))
@@ -118,28 +134,28 @@ module _ (b : List ℕ) (k : ℕ) (o v : List ℕ) where
     pub rooms-bytes : Bytes b → k < 256 → Bytes o → Bytes v → Bytes rooms
     rooms-bytes h l p q = area-bytes older 259 515 v (area-bytes stated 3 259 o (area-bytes b 0 1 (k ∷ []) h (one-byte k l)) p) q
 
-    outside : (i : ℕ) → (i < 3) ⊎ (515 ≤ i) → i < 5895 → getD rooms i 0 ≡ getD stated i 0
+    outside : (i : ℕ) → (i < 3) ⊎ (515 ≤ i) → i < length b → getD rooms i 0 ≡ getD stated i 0
     outside i (inl l) u =
-        let e = older-long in
-        let h = stated-long in
+        let e = length-area stated 3 259 o in
+        let h = length-area b 0 1 (k ∷ []) in
         area-out older 259 515 v i (inl (omega arith)) (omega arith) ∙ area-out stated 3 259 o i (inl l) (omega arith)
     outside i (inr l) u =
-        let e = older-long in
-        let h = stated-long in
+        let e = length-area stated 3 259 o in
+        let h = length-area b 0 1 (k ∷ []) in
         area-out older 259 515 v i (inr l) (omega arith) ∙ area-out stated 3 259 o i (inr (omega arith)) (omega arith)
 
     pub rooms-state : getD rooms 0 0 ≡ k
-    rooms-state = outside 0 (inl (lit< tt)) (lit< tt) ∙ area-in b 0 1 (k ∷ []) 0 (omega arith) (lit≤ tt) (lit< tt)
+    rooms-state = outside 0 (inl (lit< tt)) (omega arith) ∙ area-in b 0 1 (k ∷ []) 0 (omega arith) (lit≤ tt) (lit< tt)
 
-    kept-at : (i : ℕ) → (i < 3) ⊎ (515 ≤ i) → 0 < i → i < 5895 → getD rooms i 0 ≡ getD b i 0
-    kept-at i o l u = outside i o u ∙ area-out b 0 1 (k ∷ []) i (inr l) (omega arith)
+    pub kept-at : (i : ℕ) → (i < 3) ⊎ (515 ≤ i) → 0 < i → i < length b → getD rooms i 0 ≡ getD b i 0
+    kept-at i o l u = outside i o u ∙ area-out b 0 1 (k ∷ []) i (inr l) u
 
     pub rooms-length : u16At rooms 1 ≡ u16At b 1
     unfolding u16At
-    rooms-length = ap₂ (λ p q. p + 256 * q) (kept-at 1 (inl (lit< tt)) (lit< tt) (lit< tt)) (kept-at 2 (inl (lit< tt)) (lit< tt) (lit< tt))
+    rooms-length = ap₂ (λ p q. p + 256 * q) (kept-at 1 (inl (lit< tt)) (lit< tt) (omega arith)) (kept-at 2 (inl (lit< tt)) (lit< tt) (omega arith))
 
     pub rooms-clear : (at : ℕ) → 515 ≤ at → clear b at 5895 ≡ true → clear rooms at 5895 ≡ true
-    rooms-clear at f e = clear-make rooms at 5895 (λ i l u. kept-at i (inr (omega arith)) (omega arith) u ∙ clear-at b at 5895 e i l u)
+    rooms-clear at f e = clear-make rooms at 5895 (λ i l u. kept-at i (inr (omega arith)) (omega arith) (omega arith) ∙ clear-at b at 5895 e i l u)
 
     pub rooms-card : (n : ℕ) → n ≤ 5380 → part rooms 515 n ≡ part b 515 n
     rooms-card n f =

@@ -1,38 +1,42 @@
--- Many vectors in one call leave the bytes that the same vectors leave one by one, and so the session that the library's own calls leave; a refused call
--- leaves bytes and room as they were. Assumes nothing.
-use mathlib.Core.Path.{_≡_, refl, sym, ap, ap₂, subst, _∙_}
+-- Many vectors in one call leave the bytes that the same vectors leave one by one, and so the session that the library's own calls leave; the words of each
+-- vector are those of the session after it; a refused call leaves bytes and room as they were. Assumes nothing.
+use mathlib.Core.Path.{_≡_, refl, sym, ap, subst, _∙_}
 use mathlib.Core.Bool.{Bool, true, false, cond}
 use mathlib.Core.List.{List, [], _∷_, _++_}
 use mathlib.Core.Logic.{_⊎_, inl, inr}
-use Prim.Native.Nat.{ℕ, zero, suc, _+_, _-_, _*_, _/_, _%_, _≤_, _<_}
+use Prim.Native.Nat.{ℕ, zero, suc, _+_, _-_, _*_, _/_, _≤_, _<_}
 use native.Mathlib.Nat.{le-of-eq, le-div-iff-mul-le}
 use native.Mathlib.Omega.{arith}
-use native.Mathlib.Decide.{decLt, decLe}
-use lib.Dec.{ltb, lit≤}
-use lib.ListN.{length, getD}
-use Rattle.lists.specs.Entries.{_∈_, every}
-use Rattle.lists.specs.Listed.{listed}
-use Rattle.lists.proofs.Listed.{is-listed, listed-self, listed-ext, listed-none, listed-more}
+use native.Mathlib.Decide.{decLt}
+use lib.Dec.{ltb}
+use lib.ListN.{length, getD, List·getD-eq-default}
+use Rattle.lists.specs.Entries.{every}
+use Rattle.lists.specs.Places.{part, area}
+use Rattle.lists.proofs.Listed.{is-listed, listed-none, listed-more}
+use Rattle.lists.proofs.Places.{length-area, area-in, area-out}
 use Rattle.rule.specs.declared.Refusal.the-variants.{NotReady, NoRoom}
 use Rattle.rule.specs.declared.Answer.{Answer}
 use Rattle.rule.specs.declared.Answer.the-variants.{Done, Refused}
+use Rattle.inputs.specs.Inputs.{byteFits}
+use Rattle.inputs.specs.Allowed.{Vector}
 use Rattle.records.specs.Written.{Bytes}
 use Rattle.card.specs.declared.Session.{Session}
 use Rattle.card.proofs.Kept.{inputs-some}
+use Rattle.session.specs.Good.{Good}
 use Rattle.session.specs.Moves.{vectorOf}
-use Rattle.session.specs.Inputs.{byteFits}
-use Rattle.session.specs.Allowed.{Vector}
 use Rattle.session.proofs.Refusals.{vector-takes}
+use Rattle.history.proofs.Histories.{Roomy, history-0, history-shows}
+use Rattle.keeping.specs.Kept.{lastRoom, keptVector}
+use Rattle.keeping.proofs.Bytes.{room-at, part-bytes}
+use Rattle.making.specs.Made.{madeAgain}
+use Rattle.many.specs.Many.{manyRun, manyJudged, keptMany}
+use Rattle.many.proofs.Many.{turn-next, turn-fits, many-vector, many-length, many-asks, many-left, Left}
 use Rattle.host.specs.declared.Move.the-variants.{Vector as ByFields}
-use Rattle.host.specs.Places.{part, area, lastRoom}
-use Rattle.host.specs.Made.{madeAgain}
-use Rattle.host.specs.Calls.{packed, keptVector, leftBy, hostMove}
-use Rattle.following.specs.Following.{Holding, Call, bytesAfter, eachVector}
-use Rattle.host.specs.Many.{manyRun, manyJudged, keptMany, manyDone, Shown, hostVectors}
-use Rattle.host.proofs.Places.{length-area, area-in, area-out, room-at}
-use Rattle.host.proofs.Making.{part-bytes}
-use Rattle.host.proofs.Many.{turn-next, many-vector, many-asks, many-left, vectors-done}
-use Rattle.following.proofs.Following.{held-good, move-is, move-follows}
+use Rattle.host.specs.Calls.{packed, operated, leftBy, hostMove, hostHistory}
+use Rattle.host.specs.Vectors.{manyDone, ManyShown, hostVectors}
+use Rattle.host.proofs.Vectors.{vectors-done}
+use Rattle.following.specs.Following.{Holding, Call, bytesAfter, sessionAfter, eachVector}
+use Rattle.following.proofs.Following.{held-good, move-is, move-follows, history-follows}
 
 -- What a vector keeps, place by place
 
@@ -185,6 +189,11 @@ module _ (b : List ℕ) (s : Session) (h : Holding b s) (vs room : List ℕ) (ok
         last ∙ ap (λ x. hostMove ByFields x v .bytes) (so-far .1) ∙ kept,
       )
 
+vectors-are : (b vs room : List ℕ) (s : Session) → Holding b s → (k : ℕ) → manyJudged s vs (length room) ≡ Done k → hostVectors b vs room ≡ manyDone s b vs room (Done k)
+vectors-are b vs room s h k e =
+    sym (vectors-done b vs room (h .room) (ap (λ m. m .whole) (h .made)))
+    ∙ ap (λ m. manyDone (m .session) b vs room (manyJudged (m .session) vs (length room))) (h .made) ∙ ap (manyDone s b vs room) e
+
 -- the call that runs many vectors leaves the bytes that the same vectors leave one by one, and they hold the session that the library's own operation leaves, vector by vector
 pub many-follow : (b vs room : List ℕ) (s : Session) → Holding b s → Bytes vs → (k : ℕ) → manyJudged s vs (length room) ≡ Done k
     → (hostVectors b vs room .bytes ≡ bytesAfter b (eachVector vs (s .inputs) k)) × Holding (hostVectors b vs room .bytes) (manyRun s vs (s .inputs) k room .session)
@@ -193,9 +202,7 @@ many-follow b vs room s h ok k e =
     let card = held-good b s h .card (held-good b s h .rest (asks .0) .0) in
     let few = le-div-iff-mul-le (inputs-some s card .0) .0 (le-of-eq (asks .2)) in
     let each = each-holds b s h vs room ok (asks .0) (asks .1) k few in
-    let call : hostVectors b vs room ≡ manyDone s b vs room (Done k) =
-    sym (vectors-done b vs room (h .room) (ap (λ m. m .whole) (h .made))) ∙ ap (λ m. manyDone (m .session) b vs room (manyJudged (m .session) vs (length room))) (h .made) ∙ ap (manyDone s b vs room) e in
-    let left : hostVectors b vs room .bytes ≡ keptEach b vs (s .inputs) k = ap (λ x. x .bytes) call ∙ sym (each-many b vs (s .inputs) k (h .room)) in
+    let left : hostVectors b vs room .bytes ≡ keptEach b vs (s .inputs) k = ap (λ x. x .bytes) (vectors-are b vs room s h k e) ∙ sym (each-many b vs (s .inputs) k (h .room)) in
     (left ∙ sym (each .1), subst (λ x. Holding x (manyRun s vs (s .inputs) k room .session)) (sym left) (each .0))
 
 -- a refused call leaves every byte, and the room, as they were, of any bytes
@@ -203,7 +210,7 @@ pub many-refused : (b vs room : List ℕ) → ¬ (hostVectors b vs room .answer 
 unfolding hostVectors
 many-refused b vs room x = go (ltb (length b) 5895) (madeAgain b .whole) (manyJudged (madeAgain b .session) vs (length room)) x
   where
-    kept : Answer → Shown
+    kept : Answer → ManyShown
     kept a = record { answer = packed a; bytes = b; words = room }
 
     go : (x y : Bool) (a : Answer) → ¬ (cond x (kept (Refused NoRoom)) (cond y (manyDone (madeAgain b .session) b vs room a) (kept (Refused NotReady))) .answer ≡ 0)
@@ -213,3 +220,142 @@ many-refused b vs room x = go (ltb (length b) 5895) (madeAgain b .whole) (manyJu
     go false false a x = (refl, refl)
     go false true (Refused why) x = (refl, refl)
     go false true (Done k) x = absurd (x refl)
+
+-- The words of each vector
+
+session-append : (s : Session) (xs ys : List Call) → sessionAfter s (xs ++ ys) ≡ sessionAfter (sessionAfter s xs) ys
+unfolding sessionAfter
+session-append s [] ys = refl
+session-append s (x ∷ xs) ys = session-append (operated (x .how) s (x .given) .session) xs ys
+
+-- the session that many vectors leave is the one that the library leaves, called for each of them
+pub run-session : (s : Session) (vs room : List ℕ) (n k : ℕ) → manyRun s vs n k room .session ≡ sessionAfter s (eachVector vs n k)
+unfolding manyRun eachVector sessionAfter
+run-session s vs room n zero = sym (ap (sessionAfter s) (listed-none (λ j. record { how = ByFields; given = part vs (j * n) n })))
+run-session s vs room n (suc k) =
+    let e : k + 1 ≡ suc k = omega arith in
+    let call : Call = record { how = ByFields; given = part vs (k * n) n } in
+    let more : eachVector vs n (suc k) ≡ eachVector vs n k ++ (call ∷ []) =
+    ap (eachVector vs n) (sym e) ∙ listed-more (λ j. record { how = ByFields; given = part vs (j * n) n }) k in
+    ap (λ z. vectorOf z (part vs (k * n) n) .session) (run-session s vs room n k)
+    ∙ sym (ap (sessionAfter s) more ∙ session-append s (eachVector vs n k) (call ∷ []))
+
+module _ (s : Session) (vs : List ℕ) (n : ℕ) (room : List ℕ) where
+  -- the words of vector j stay where they were put, whatever vectors come after it
+  pub run-words : (k : ℕ) → k * s .nets ≤ length room → (j m : ℕ) → j < k → m < s .nets
+      → getD (manyRun s vs n k room .words) (j * s .nets + m) 0 ≡ getD (manyRun s vs n (suc j) room .session .words) m 0
+  unfolding manyRun
+  run-words zero f j m l u = absurd (omega arith)
+  run-words (suc k) f j m l u = go (λ b. run-words k (omega (arith, now)) j m b u) (decLt j k)
+    where
+      now : k * s .nets + s .nets ≤ length room
+      now = turn-fits k (suc k) (s .nets) (length room) (omega arith) f
+
+      so-far : List ℕ
+      so-far = manyRun s vs n k room .words
+
+      next : List ℕ
+      next = manyRun s vs n (suc k) room .session .words
+
+      long : length so-far ≡ length room
+      long = many-length s vs n k room
+
+      go : (j < k → getD so-far (j * s .nets + m) 0 ≡ getD (manyRun s vs n (suc j) room .session .words) m 0) → Dec (j < k)
+          → getD (manyRun s vs n (suc k) room .words) (j * s .nets + m) 0 ≡ getD (manyRun s vs n (suc j) room .session .words) m 0
+      go ih (yes b) =
+          let ahead : j * s .nets + s .nets ≤ k * s .nets = turn-fits j k (s .nets) (k * s .nets) b (le-of-eq refl) in
+          area-out so-far (k * s .nets) (k * s .nets + s .nets) next (j * s .nets + m) (inl (omega (arith, ahead, u))) (omega (arith, ahead, u, now, long)) ∙ ih b
+      go ih (no b) =
+          let q : k ≡ j = omega arith in
+          let e : k * s .nets + m - k * s .nets ≡ m = omega arith in
+          subst (λ i. getD (manyRun s vs n (suc k) room .words) (i * s .nets + m) 0 ≡ getD (manyRun s vs n (suc i) room .session .words) m 0) q
+          (area-in so-far (k * s .nets) (k * s .nets + s .nets) next (k * s .nets + m) (omega (arith, now, long)) (omega arith) (omega (arith, u)) ∙ ap (λ i. getD next i 0) e)
+
+  -- the room past the words of all vectors stays
+  pub run-past : (k i : ℕ) → k * s .nets ≤ i → getD (manyRun s vs n k room .words) i 0 ≡ getD room i 0
+  unfolding manyRun
+  run-past zero i f = refl
+  run-past (suc k) i f = go (run-past k i (omega (arith, past))) (decLt i (length room))
+    where
+      past : k * s .nets + s .nets ≤ i
+      past = turn-fits k (suc k) (s .nets) i (omega arith) f
+
+      so-far : List ℕ
+      so-far = manyRun s vs n k room .words
+
+      next : List ℕ
+      next = manyRun s vs n (suc k) room .session .words
+
+      go : getD so-far i 0 ≡ getD room i 0 → Dec (i < length room) → getD (manyRun s vs n (suc k) room .words) i 0 ≡ getD room i 0
+      go ih (yes l) = area-out so-far (k * s .nets) (k * s .nets + s .nets) next i (inr past) (omega (arith, many-length s vs n k room, l)) ∙ ih
+      go ih (no l) =
+          List·getD-eq-default (manyRun s vs n (suc k) room .words) 0 {n = i} (omega (arith, many-length s vs n (suc k) room, l))
+          ∙ sym (List·getD-eq-default room 0 {n = i} (omega arith))
+
+-- a history shows the words of the session that the bytes hold
+words-shown : (b : List ℕ) (s : Session) → Holding b s → s .rested ≡ true → (words befores flags : List ℕ) → Roomy s words befores flags
+    → (n : ℕ) → n < s .nets → getD (hostHistory b words befores flags .words) n 0 ≡ getD (s .words) n 0
+words-shown b s h r words befores flags fits n l =
+    ap (λ t. getD (t .words) n 0) (history-follows b s h words befores flags)
+    ∙ history-shows s (held-good b s h) r words befores flags (history-0 s words befores flags .1 (r, fits)) n l .0
+
+module _ (b vs room : List ℕ) (s : Session) (h : Holding b s) (k : ℕ) (e : manyJudged s vs (length room) ≡ Done k) where
+  -- the bytes hold the session that the library's own vectors leave, one by one
+  pub many-session : Bytes vs → Holding (hostVectors b vs room .bytes) (sessionAfter s (eachVector vs (s .inputs) k))
+  many-session ok = subst (Holding (hostVectors b vs room .bytes)) (run-session s vs room (s .inputs) k) (many-follow b vs room s h ok k e .1)
+
+  words-are : hostVectors b vs room .words ≡ manyRun s vs (s .inputs) k room .words
+  words-are = ap (λ x. x .words) (vectors-are b vs room s h k e)
+
+  -- the words that the call leaves for vector j are the words of the session after the first j + 1 vectors, one by one
+  pub many-words : (j n : ℕ) → j < k → n < s .nets
+      → getD (hostVectors b vs room .words) (j * s .nets + n) 0 ≡ getD (sessionAfter s (eachVector vs (s .inputs) (j + 1)) .words) n 0
+  many-words j n l u =
+      let q : suc j ≡ j + 1 = omega arith in
+      ap (λ w. getD w (j * s .nets + n) 0) words-are ∙ run-words s vs (s .inputs) room k (many-asks s vs (length room) k e .3) j n l u
+      ∙ ap (λ x. getD (x .words) n 0) (run-session s vs room (s .inputs) (suc j) ∙ ap (λ i. sessionAfter s (eachVector vs (s .inputs) i)) q)
+
+  -- the first j + 1 vectors, a call for each: the bytes hold the session, and it is rested and has as many nets
+  after-each : Bytes vs → (j : ℕ) → j < k → (let t = sessionAfter s (eachVector vs (s .inputs) (j + 1)) in
+      Holding (bytesAfter b (eachVector vs (s .inputs) (j + 1))) t × (t .rested ≡ true) × (t .nets ≡ s .nets))
+  after-each ok j l =
+      subst (λ t. Holding (bytesAfter b (eachVector vs (s .inputs) (j + 1))) t × (t .rested ≡ true) × (t .nets ≡ s .nets)) (run-session s vs room (s .inputs) (j + 1))
+      (subst (λ x. Holding x (manyRun s vs (s .inputs) (j + 1) room .session)) (sym (each .1)) (each .0), ap (λ t. t .rested) (left .same), ap (λ t. t .nets) (left .same))
+    where
+      asks : (s .rested ≡ true) × (every byteFits vs ≡ true) × (k ≡ length vs / s .inputs) × (k * s .nets ≤ length room)
+      asks = many-asks s vs (length room) k e
+
+      good : Good s
+      good = held-good b s h
+
+      fits : (j + 1) * s .inputs ≤ length vs
+      fits =
+          let some = inputs-some s (good .card (good .rest (asks .0) .0)) .0 in
+          omega (arith, turn-next j (s .inputs), turn-fits j k (s .inputs) (length vs) l (le-div-iff-mul-le some .0 (le-of-eq (asks .2))))
+
+      each : Holding (keptEach b vs (s .inputs) (j + 1)) (manyRun s vs (s .inputs) (j + 1) room .session)
+          × (bytesAfter b (eachVector vs (s .inputs) (j + 1)) ≡ keptEach b vs (s .inputs) (j + 1))
+      each = each-holds b s h vs room ok (asks .0) (asks .1) (j + 1) fits
+
+      left : Left s good (asks .0) vs room (asks .1) (manyRun s vs (s .inputs) (j + 1) room .session)
+      left = many-left s good (asks .0) vs room (asks .1) (j + 1) fits
+
+  -- and they are the words that a history shows of the bytes after the first j + 1 vectors, a call for each
+  pub many-shown : Bytes vs → (words befores flags : List ℕ) → s .nets ≤ length words → s .nets ≤ length befores → s .nets ≤ length flags
+      → (j n : ℕ) → j < k → n < s .nets
+      → getD (hostVectors b vs room .words) (j * s .nets + n) 0
+      ≡ getD (hostHistory (bytesAfter b (eachVector vs (s .inputs) (j + 1))) words befores flags .words) n 0
+  many-shown ok words befores flags x y z j n l u =
+      let after = after-each ok j l in
+      let same = after .2 in
+      many-words j n l u
+      ∙ sym (words-shown (bytesAfter b (eachVector vs (s .inputs) (j + 1))) (sessionAfter s (eachVector vs (s .inputs) (j + 1))) (after .0) (after .1) words befores flags
+      (record { for-words = omega (arith, same, x); for-befores = omega (arith, same, y); for-flags = omega (arith, same, z) }) n (omega (arith, same, u)))
+
+  -- the room past the words of all vectors stays as it was
+  pub many-past : (i : ℕ) → k * s .nets ≤ i → getD (hostVectors b vs room .words) i 0 ≡ getD room i 0
+  many-past i l = ap (λ w. getD w i 0) words-are ∙ run-past s vs (s .inputs) room k i l
+
+  -- no entry more, and none less
+  pub many-room : length (hostVectors b vs room .words) ≡ length room
+  many-room = ap length words-are ∙ many-length s vs (s .inputs) k room

@@ -4,13 +4,13 @@ use mathlib.Core.List.{List, [], _∷_}
 use Prim.Native.Nat.{ℕ, _*_, _≤_}
 use lib.ListN.{length}
 use Rattle.lists.specs.Listed.{listed}
+use Rattle.lists.specs.Places.{part}
 use Rattle.records.specs.Written.{Bytes}
 use Rattle.card.specs.declared.Session.{Session}
+use Rattle.making.specs.Made.{held, madeAgain}
 use Rattle.host.specs.declared.Move.{Move}
 use Rattle.host.specs.declared.Move.the-variants.{Vector}
-use Rattle.host.specs.Places.{part}
-use Rattle.host.specs.Made.{held, madeAgain}
-use Rattle.host.specs.Calls.{packed, operated, Hosted, hostMove}
+use Rattle.host.specs.Calls.{packed, operated, hostMove}
 
 -- lent bytes that hold a session
 pub record Holding (b : List ℕ) (s : Session) : Type 0 where

@@ -9,7 +9,9 @@ use native.Mathlib.Decide.{decLe}
 use lib.Dec.{leb, eqb}
 use lib.ListN.{length, getD}
 use borrow.Author.Tests.{le-leb, lt-leb}
+use Rattle.lists.specs.Filled.{filled}
 use Rattle.lists.proofs.Bools.{and-make}
+use Rattle.lists.proofs.Rooms.{filled-length, filled-at, filled-past}
 use Rattle.word.specs.Word.{bit, val}
 use Rattle.rule.specs.Flag.{flagOf}
 use Rattle.rule.specs.Numbers.{answerNumber, answerCount}
@@ -18,12 +20,12 @@ use Rattle.rule.specs.declared.Refusal.the-variants.{NotReady, NoRoom}
 use Rattle.rule.specs.declared.Answer.{Answer}
 use Rattle.rule.specs.declared.Answer.the-variants.{Done, Refused}
 use Rattle.card.specs.declared.Session.{Session}
+use Rattle.card.specs.Session.{wordAt, beforeAt}
+use Rattle.card.proofs.Kept.{few}
 use Rattle.session.specs.Good.{Rested, Good}
-use Rattle.history.specs.Filled.{filled}
-use Rattle.history.specs.Told.{Told, wordAt, beforeAt, flagAt, historyOf}
-use Rattle.history.proofs.Fills.{fill-length, fill-at, fill-past}
+use Rattle.history.specs.Told.{Told, beforeByte, flagAt, historyOf}
 use Rattle.history.proofs.Flags.{Hazard, flag-is, flag-cong}
-use Rattle.history.proofs.Ran.{holds, few, ruleValue, before-is, value-is}
+use Rattle.history.proofs.Ran.{holds, ruleValue, before-is, value-is}
 
 -- an answer that leaves the three slices as they were
 abbrev pub unwritten : List ℕ → List ℕ → List ℕ → Answer → Told
@@ -32,7 +34,7 @@ unwritten words befores flags a = record { answer = a; words = words; befores = 
 module _ (s : Session) (words befores flags : List ℕ) where
   -- what history writes
   abbrev pub written : Told
-  written = record { answer = Done (s .nets); words = filled (wordAt s) (s .nets) words; befores = filled (λ n. val (beforeAt s n)) (s .nets) befores; flags = filled (flagAt s) (s .nets) flags }
+  written = record { answer = Done (s .nets); words = filled (wordAt s) (s .nets) words; befores = filled (beforeByte s) (s .nets) befores; flags = filled (flagAt s) (s .nets) flags }
 
   -- "lent room too short"
   abbrev pub Short : Type 0
@@ -149,16 +151,16 @@ module _ (s : Session) (words befores flags : List ℕ) where
     -- "Lent room past the part written keeps its contents."
     pub history-keeps-past : (i : ℕ) → s .nets ≤ i → (getD (heard .words) i 0 ≡ getD words i 0) × (getD (heard .befores) i 0 ≡ getD befores i 0) × (getD (heard .flags) i 0 ≡ getD flags i 0)
     history-keeps-past i l = (
-      ap (λ x. getD (x .words) i 0) wrote ∙ fill-past (wordAt s) words (s .nets) i l,
-      ap (λ x. getD (x .befores) i 0) wrote ∙ fill-past (λ n. val (beforeAt s n)) befores (s .nets) i l,
-      ap (λ x. getD (x .flags) i 0) wrote ∙ fill-past (flagAt s) flags (s .nets) i l,
+      ap (λ x. getD (x .words) i 0) wrote ∙ filled-past (wordAt s) words (s .nets) i l,
+      ap (λ x. getD (x .befores) i 0) wrote ∙ filled-past (beforeByte s) befores (s .nets) i l,
+      ap (λ x. getD (x .flags) i 0) wrote ∙ filled-past (flagAt s) flags (s .nets) i l,
     )
 
     pub history-keeps-length : (length (heard .words) ≡ length words) × (length (heard .befores) ≡ length befores) × (length (heard .flags) ≡ length flags)
     history-keeps-length = (
-      ap (λ x. length (x .words)) wrote ∙ fill-length (wordAt s) words (s .nets),
-      ap (λ x. length (x .befores)) wrote ∙ fill-length (λ n. val (beforeAt s n)) befores (s .nets),
-      ap (λ x. length (x .flags)) wrote ∙ fill-length (flagAt s) flags (s .nets),
+      ap (λ x. length (x .words)) wrote ∙ filled-length (wordAt s) words (s .nets),
+      ap (λ x. length (x .befores)) wrote ∙ filled-length (beforeByte s) befores (s .nets),
+      ap (λ x. length (x .flags)) wrote ∙ filled-length (flagAt s) flags (s .nets),
     )
 
 -- What a rested session's history says: the unit-delay rule's values, the before values ahead of them, and their flags
@@ -178,9 +180,9 @@ module _ (s : Session) (g : Good s) (rested : s .rested ≡ true) (words befores
       → (getD (heard s words befores flags .words) n 0 ≡ wordAt s n) × (getD (heard s words befores flags .befores) n 0 ≡ val (beforeAt s n)) × (getD (heard s words befores flags .flags) n 0 ≡ flagAt s n)
   history-shows n l =
       let left = wrote s words befores flags ok in (
-        ap (λ x. getD (x .words) n 0) left ∙ fill-at (wordAt s) words (s .nets) n l (room .for-words),
-        ap (λ x. getD (x .befores) n 0) left ∙ fill-at (λ m. val (beforeAt s m)) befores (s .nets) n l (room .for-befores),
-        ap (λ x. getD (x .flags) n 0) left ∙ fill-at (flagAt s) flags (s .nets) n l (room .for-flags),
+        ap (λ x. getD (x .words) n 0) left ∙ filled-at (wordAt s) words (s .nets) n l (room .for-words),
+        ap (λ x. getD (x .befores) n 0) left ∙ filled-at (beforeByte s) befores (s .nets) n l (room .for-befores),
+        ap (λ x. getD (x .flags) n 0) left ∙ filled-at (flagAt s) flags (s .nets) n l (room .for-flags),
       )
 
   pub history-word : (n t : ℕ) → n < s .nets → t < 64 → bit (getD (heard s words befores flags .words) n 0) t ≡ ruleValue s run n t

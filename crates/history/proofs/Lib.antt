@@ -1,4 +1,3 @@
-pub mod Fills
 pub mod Changes
 pub mod Flags
 pub mod Moves

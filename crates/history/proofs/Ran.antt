@@ -3,7 +3,7 @@ use mathlib.Core.Path.{_≡_, sym, ap, _∙_, subst}
 use mathlib.Core.Bool.{Bool, true, false}
 use mathlib.Core.List.{List}
 use mathlib.Core.Logic.{inl, inr, ⊎-elim}
-use Prim.Native.Nat.{ℕ, zero, suc, _-_, _≤_, _<_}
+use Prim.Native.Nat.{ℕ, zero, suc, _-_, _<_}
 use native.Mathlib.Omega.{arith}
 use lib.ListN.{getD}
 use Rattle.lists.specs.Entries.{_∈_, some}
@@ -17,10 +17,10 @@ use Rattle.rule.specs.Flag.{changedAt}
 use Rattle.rule.specs.Cause.{firstPin}
 use Rattle.rule.proofs.Nets.{at-open, at-net, not-open}
 use Rattle.wiring.specs.Layout.{pinsAt}
-use Rattle.card.specs.Session.{cardOf}
+use Rattle.card.specs.Session.{cardOf, wordAt, beforeAt}
 use Rattle.card.specs.Held.{HasCard}
 use Rattle.card.specs.declared.Session.{Session}
-use Rattle.card.proofs.Kept.{nets-are, card-fits, card-pins, card-wires, card-fitting}
+use Rattle.card.proofs.Kept.{few, card-pins, card-wires, card-fitting}
 use Rattle.session.specs.Good.{histories, Rested, Good}
 use Rattle.history.specs.Traced.{movedAt}
 use Rattle.history.specs.Caused.{Readable, Caused}
@@ -32,9 +32,6 @@ use Rattle.history.proofs.Causes.{pinChanged, cause-exists}
 -- a rested session holds a card
 pub holds : (s : Session) → Good s → s .rested ≡ true → HasCard s
 holds s g e = g .card (g .rest e .0)
-
-pub few : (s : Session) → HasCard s → s .nets ≤ 256
-few s h = omega (arith, nets-are s h, card-fits s h .fits .few)
 
 -- a pin of its card names a place of the arrays or is open
 pub pin-readable : (s : Session) → HasCard s → (g p : ℕ) → p ∈ pinsAt (s .counts) (s .places) g → Readable p
@@ -48,18 +45,18 @@ module _ (s : Session) (h : HasCard s) (r : Rested s) where
   abbrev v : ℕ → ℕ → Bool
   v = ruleValue s r
 
-  pub before-is : (n : ℕ) → n < 256 → getD (s .before) n false ≡ r .old n
+  pub before-is : (n : ℕ) → n < 256 → beforeAt s n ≡ r .old n
   before-is n l = ap (λ xs. getD xs n false) (r .before-are) ∙ listed-at (r .old) 256 n false l
 
-  pub word-is : (n : ℕ) → n < 256 → getD (s .words) n 0 ≡ wordOf 64 (v n)
+  pub word-is : (n : ℕ) → n < 256 → wordAt s n ≡ wordOf 64 (v n)
   unfolding histories
   word-is n l = ap (λ xs. getD xs n 0) (r .words-are) ∙ listed-at (λ m. wordOf 64 (v m)) 256 n 0 l
 
-  pub value-is : (n t : ℕ) → n < 256 → t < 64 → bit (getD (s .words) n 0) t ≡ v n t
+  pub value-is : (n t : ℕ) → n < 256 → t < 64 → bit (wordAt s n) t ≡ v n t
   value-is n t l b = ap (λ w. bit w t) (word-is n l) ∙ bit-word 64 (v n) t b
 
-  change-is : (n t : ℕ) → n < 256 → t < 64 → changedAt (getD (s .before) n false) (bit (getD (s .words) n 0)) t ≡ changedAt (r .old n) (v n) t
-  change-is n t l b = changed-cong (getD (s .before) n false) (r .old n) (bit (getD (s .words) n 0)) (v n) (before-is n l) (λ u. value-is n u l) t b
+  change-is : (n t : ℕ) → n < 256 → t < 64 → changedAt (beforeAt s n) (bit (wordAt s n)) t ≡ changedAt (r .old n) (v n) t
+  change-is n t l b = changed-cong (beforeAt s n) (r .old n) (bit (wordAt s n)) (v n) (before-is n l) (λ u. value-is n u l) t b
 
   pub moved-is : (n t : ℕ) → n < 256 → t < 64 → movedAt (s .before) (s .words) n t ≡ changedAt (r .old n) (v n) t
   moved-is n t l b = sym (moved-net (s .before) (s .words) n t (omega arith)) ∙ change-is n t l b

@@ -11,7 +11,9 @@ use lib.ListN.{length, getD}
 use lib.Seq.{sets}
 use borrow.Author.Tests.{lt-ltb, le-ltb, le-leb, lt-leb, ltb-true}
 use Rattle.lists.specs.Entries.{_∈_}
+use Rattle.lists.specs.Filled.{filled}
 use Rattle.lists.proofs.Bools.{and-both, not-both}
+use Rattle.lists.proofs.Rooms.{filled-list, filled-length, filled-at, filled-past}
 use Rattle.rule.specs.Net.{input, netAt, pins}
 use Rattle.rule.specs.Flag.{changedAt}
 use Rattle.rule.specs.Cause.{firstPin, causes}
@@ -23,15 +25,13 @@ use Rattle.rule.specs.declared.Answer.the-variants.{Done, Refused}
 use Rattle.card.specs.Session.{cardOf}
 use Rattle.card.specs.Held.{HasCard}
 use Rattle.card.specs.declared.Session.{Session}
-use Rattle.card.proofs.Kept.{nets-are, card-pins}
+use Rattle.card.proofs.Kept.{nets-are, few, card-pins}
 use Rattle.session.specs.Good.{Rested, Good}
-use Rattle.history.specs.Filled.{filled}
 use Rattle.history.specs.Traced.{Traced, movedAt, changedThen, wayBack, traceOf}
-use Rattle.history.proofs.Fills.{fill-list, fill-length, fill-at, fill-past}
 use Rattle.history.proofs.Ways.{way-length, way-first, way-next, way-on}
 use Rattle.history.proofs.Causes.{pinChanged, Cause}
 use Rattle.history.proofs.WaysBack.{entry, Changed, entry-changed, entry-cause, last-changed, last-is-input}
-use Rattle.history.proofs.Ran.{holds, few, ruleValue, moved-is, pin-moved-is, pin-readable}
+use Rattle.history.proofs.Ran.{holds, ruleValue, moved-is, pin-moved-is, pin-readable}
 
 -- an answer that leaves the room as it was
 abbrev pub unwritten : List ℕ → Answer → Traced
@@ -82,7 +82,7 @@ module _ (s : Session) (n t : ℕ) (room : List ℕ) where
   unfolding wayBack
   way-stored l xs e =
       let k = way-length (cardOf s) (movedAt (s .before) (s .words)) n t in
-      e ∙ fill-list (wayBack s n t) room (omega arith) ∙ ap (λ m. filled (λ i. getD (wayBack s n t) i 0) m room) k
+      e ∙ filled-list (wayBack s n t) room (omega arith) ∙ ap (λ m. filled (λ i. getD (wayBack s n t) i 0) m room) k
 
   pub traced : s .rested ≡ true → n < s .nets → changedThen s n t ≡ true → t < length room → (xs : List ℕ)
       → xs ≡ sets room 0 (causes (cardOf s) (movedAt (s .before) (s .words)) n t) → record { answer = Done (t + 1); room = xs } ≡ traceOf s n t room
@@ -162,18 +162,18 @@ module _ (s : Session) (n t : ℕ) (room : List ℕ) where
     unfolding wayBack
     trace-length =
         let h = reason 0 ok .3 in
-        let k = ap (λ x. length (x .room)) wrote ∙ fill-length (λ i. getD (wayBack s n t) i 0) room (t + 1) in
+        let k = ap (λ x. length (x .room)) wrote ∙ filled-length (λ i. getD (wayBack s n t) i 0) room (t + 1) in
         (ap (λ x. answerCount (x .answer)) wrote, way-length (cardOf s) (movedAt (s .before) (s .words)) n t, omega arith)
 
     pub trace-at : (i : ℕ) → i ≤ t → getD (left .room) i 0 ≡ getD (wayBack s n t) i 0
-    trace-at i l = let h = reason 0 ok .3 in ap (λ x. getD (x .room) i 0) wrote ∙ fill-at (λ j. getD (wayBack s n t) j 0) room (t + 1) i (omega arith) (omega arith)
+    trace-at i l = let h = reason 0 ok .3 in ap (λ x. getD (x .room) i 0) wrote ∙ filled-at (λ j. getD (wayBack s n t) j 0) room (t + 1) i (omega arith) (omega arith)
 
     -- "Lent room past the part written keeps its contents."
     pub trace-keeps-past : (i : ℕ) → t < i → getD (left .room) i 0 ≡ getD room i 0
-    trace-keeps-past i l = ap (λ x. getD (x .room) i 0) wrote ∙ fill-past (λ j. getD (wayBack s n t) j 0) room (t + 1) i (omega arith)
+    trace-keeps-past i l = ap (λ x. getD (x .room) i 0) wrote ∙ filled-past (λ j. getD (wayBack s n t) j 0) room (t + 1) i (omega arith)
 
     pub trace-keeps-length : length (left .room) ≡ length room
-    trace-keeps-length = ap (λ x. length (x .room)) wrote ∙ fill-length (λ i. getD (wayBack s n t) i 0) room (t + 1)
+    trace-keeps-length = ap (λ x. length (x .room)) wrote ∙ filled-length (λ i. getD (wayBack s n t) i 0) room (t + 1)
 
 -- What a rested session's trace says, by the unit-delay rule
 

@@ -1,4 +1,3 @@
-pub mod Filled
 pub mod Told
 pub mod Traced
 pub mod Caused

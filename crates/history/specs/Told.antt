@@ -1,17 +1,18 @@
 -- History: "12, 18"; "History fills three lent slices, one entry a net: word, before value (the one from ahead of that word's time 0), flag."
 -- Assumes nothing.
-use mathlib.Core.Bool.{Bool, false, cond, _&&_}
+use mathlib.Core.Bool.{cond, _&&_}
 use mathlib.Core.List.{List}
 use Prim.Native.Nat.{ℕ}
 use lib.Dec.{leb}
-use lib.ListN.{length, getD}
+use lib.ListN.{length}
+use Rattle.lists.specs.Filled.{filled}
 use Rattle.word.specs.Word.{bit, val}
 use Rattle.rule.specs.Flag.{flagOf}
 use Rattle.rule.specs.declared.Refusal.the-variants.{NotReady, NoRoom}
 use Rattle.rule.specs.declared.Answer.{Answer}
 use Rattle.rule.specs.declared.Answer.the-variants.{Done, Refused}
 use Rattle.card.specs.declared.Session.{Session}
-use Rattle.history.specs.Filled.{filled}
+use Rattle.card.specs.Session.{wordAt, beforeAt}
 
 -- what a history hands back, and the three lent slices after it
 pub record Told : Type 0 where
@@ -20,11 +21,9 @@ pub record Told : Type 0 where
   pub befores : List ℕ
   pub flags : List ℕ
 
-abbrev pub wordAt : Session → ℕ → ℕ
-wordAt s n = getD (s .words) n 0
-
-abbrev pub beforeAt : Session → ℕ → Bool
-beforeAt s n = getD (s .before) n false
+-- a net's before value as a byte, and its flag
+abbrev pub beforeByte : Session → ℕ → ℕ
+beforeByte s n = val (beforeAt s n)
 
 abbrev pub flagAt : Session → ℕ → ℕ
 flagAt s n = flagOf (beforeAt s n) (bit (wordAt s n))
@@ -38,7 +37,7 @@ historyOf s words befores flags =
     (record {
       answer = Done (s .nets);
       words = filled (wordAt s) (s .nets) words;
-      befores = filled (λ n. val (beforeAt s n)) (s .nets) befores;
+      befores = filled (beforeByte s) (s .nets) befores;
       flags = filled (flagAt s) (s .nets) flags;
     })
     (kept (Refused NoRoom)))

@@ -4,6 +4,7 @@ use mathlib.Core.List.{List}
 use Prim.Native.Nat.{ℕ, _+_}
 use lib.Dec.{leb, ltb}
 use lib.ListN.{length, getD}
+use Rattle.lists.specs.Filled.{filled}
 use Rattle.word.specs.Word.{bit}
 use Rattle.rule.specs.Net.{atPin}
 use Rattle.rule.specs.Flag.{changedAt}
@@ -11,21 +12,24 @@ use Rattle.rule.specs.Cause.{causes}
 use Rattle.rule.specs.declared.Refusal.the-variants.{NotReady, NoSuchNet, NoChange, NoRoom}
 use Rattle.rule.specs.declared.Answer.{Answer}
 use Rattle.rule.specs.declared.Answer.the-variants.{Done, Refused}
-use Rattle.card.specs.Session.{cardOf}
+use Rattle.card.specs.Session.{cardOf, wordAt, beforeAt}
 use Rattle.card.specs.declared.Session.{Session}
-use Rattle.history.specs.Filled.{filled}
 
--- whether what a pin names changed at time t; an open pin never does
+-- whether what a pin names changed at time t, by the nets' before values and words; an open pin never does
+abbrev pub changedBy : (ℕ → Bool) → (ℕ → ℕ) → ℕ → ℕ → Bool
+changedBy before word n t = atPin false (λ m. changedAt (before m) (bit (word m)) t) n
+
+-- the same, from arrays of them
 abbrev pub movedAt : List Bool → List ℕ → ℕ → ℕ → Bool
-movedAt before words n t = atPin false (λ m. changedAt (getD before m false) (bit (getD words m 0)) t) n
+movedAt before words = changedBy (λ m. getD before m false) (λ m. getD words m 0)
 
 -- "14: that net did not change at that time (times over 63 too)"
 abbrev pub changedThen : Session → ℕ → ℕ → Bool
-changedThen s n t = ltb t 64 && movedAt (s .before) (s .words) n t
+changedThen s n t = ltb t 64 && changedBy (beforeAt s) (wordAt s) n t
 
 -- the nets on the way back
 unfoldable pub wayBack : Session → ℕ → ℕ → List ℕ
-wayBack s n t = causes (cardOf s) (movedAt (s .before) (s .words)) n t
+wayBack s n t = causes (cardOf s) (changedBy (beforeAt s) (wordAt s)) n t
 
 pub record Traced : Type 0 where
   pub answer : Answer

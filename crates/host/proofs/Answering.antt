@@ -10,8 +10,8 @@ use Rattle.rule.specs.declared.Refusal.the-variants.{NotReady, NoRoom}
 use Rattle.rule.specs.declared.Answer.{Answer}
 use Rattle.rule.specs.declared.Answer.the-variants.{Done, Refused}
 use Rattle.history.specs.Told.{Told, historyOf}
+use Rattle.making.specs.Made.{madeAgain}
 use Rattle.host.specs.declared.Move.{Move}
-use Rattle.host.specs.Made.{madeAgain}
 use Rattle.host.specs.Calls.{packed, operated, keptBy, leftBy, hostMove, hostHistory}
 
 module _ (how : Move) (b v : List ℕ) where

@@ -1,4 +1,2 @@
-pub mod Places
-pub mod Making
 pub mod Answering
-pub mod Many
+pub mod Vectors

@@ -1,7 +1,7 @@
 -- The host's calls: what each answers and leaves, for any bytes. Assumes nothing.
 use mathlib.Core.Bool.{cond}
-use mathlib.Core.List.{List, [], _∷_}
-use Prim.Native.Nat.{ℕ, _+_, _*_, _/_, _%_}
+use mathlib.Core.List.{List}
+use Prim.Native.Nat.{ℕ, _+_, _*_, _%_}
 use lib.Dec.{ltb}
 use lib.ListN.{length}
 use Rattle.rule.specs.declared.Refusal.the-variants.{NotReady, NoRoom}
@@ -14,10 +14,10 @@ use Rattle.session.specs.declared.Moved.{Moved}
 use Rattle.session.specs.Moves.{restOf, vectorOf}
 use Rattle.history.specs.Told.{historyOf}
 use Rattle.steps.specs.Vector.{stepsVectorOf}
+use Rattle.keeping.specs.Kept.{keptCard, keptRest, keptVector}
+use Rattle.making.specs.Made.{madeAgain}
 use Rattle.host.specs.declared.Move.{Move}
 use Rattle.host.specs.declared.Move.the-variants.{Load, Rest, Vector, Steps}
-use Rattle.host.specs.Places.{area, lastRoom}
-use Rattle.host.specs.Made.{madeAgain}
 
 -- an answer as one number: the paper's number, and 256 times the count. "With 0 comes a count." No count is over 4,096 (`packed-plain`)
 unfoldable pub packed : Answer → ℕ
@@ -33,16 +33,7 @@ operated Rest s v = restOf s v
 operated Vector s v = vectorOf s v
 operated Steps s v = stepsVectorOf s v
 
--- what is kept of a session that was just loaded, rested, or moved by a vector
-unfoldable pub keptCard : List ℕ → List ℕ → List ℕ
-keptCard b card = area (area (area b 0 3 (1 ∷ length card % 256 ∷ length card / 256 % 256 ∷ [])) 3 515 (0 ∷ [])) 515 5895 card
-
-unfoldable pub keptRest : List ℕ → List ℕ → List ℕ
-keptRest b v = area (area (area b 0 1 (2 ∷ [])) 3 259 (0 ∷ [])) 259 515 v
-
-unfoldable pub keptVector : List ℕ → List ℕ → List ℕ
-keptVector b v = area (area (area b 0 1 (3 ∷ [])) 3 259 (lastRoom b)) 259 515 v
-
+-- what is kept after each
 abbrev pub keptBy : Move → List ℕ → List ℕ → List ℕ
 keptBy Load b v = keptCard b v
 keptBy Rest b v = keptRest b v

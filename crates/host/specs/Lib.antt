@@ -1,4 +1,2 @@
-pub mod Places
-pub mod Made
 pub mod Calls
-pub mod Many
+pub mod Vectors

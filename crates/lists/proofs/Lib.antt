@@ -4,3 +4,6 @@ pub mod Joined
 pub mod Listed
 pub mod Order
 pub mod Number
+pub mod Fills
+pub mod Rooms
+pub mod Places

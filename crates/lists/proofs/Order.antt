@@ -16,7 +16,13 @@ module _ {A : Type 0} where
   at-in (x ∷ xs) zero d l = List·Memᴰ·head refl
   at-in (x ∷ xs) (suc i) d l = List·Memᴰ·tail (at-in xs i d (omega arith))
 
-  -- and, where none stands twice, at one place only
+  -- what holds of the entries and of the default holds of what is read
+  pub read-all : (P : A → Type 0) (xs : List A) (i : ℕ) (d : A) → ((x : A) → x ∈ xs → P x) → P d → P (getD xs i d)
+  read-all P [] i d h e = e
+  read-all P (x ∷ xs) zero d h e = h x (List·Memᴰ·head refl)
+  read-all P (x ∷ xs) (suc i) d h e = read-all P xs i d (λ y m. h y (List·Memᴰ·tail m)) e
+
+  -- and, where none stands twice, an entry stands at one place only
   pub distinct-at : (xs : List A) (d : A) → Distinct xs → (i j : ℕ) → i < length xs → j < length xs → getD xs i d ≡ getD xs j d → i ≡ j
   distinct-at [] d o i j l h e = absurd (omega arith)
   distinct-at (x ∷ xs) d o zero zero l h e = refl

@@ -1,2 +1,4 @@
 pub mod Entries
 pub mod Listed
+pub mod Places
+pub mod Filled

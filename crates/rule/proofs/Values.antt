@@ -4,7 +4,9 @@ use mathlib.Core.Bool.{Bool, true, false, true≢false, false≢true}
 use mathlib.Core.List.{List, map}
 use Prim.Native.Nat.{ℕ, zero, suc, _-_}
 use native.Mathlib.Nat.{sub-zero}
+use Rattle.lists.specs.Entries.{_∈_}
 use Rattle.lists.proofs.Bools.{not-both}
+use Rattle.lists.proofs.Tests.{map-on}
 use Rattle.word.specs.Word.{differ, movedUp}
 use Rattle.word.specs.Times.{greatest, zeroIn}
 use Rattle.word.proofs.Sets.{greatest-zero}
@@ -27,6 +29,27 @@ next-source : (w : Net) (v : Bool) (at : ℕ → Bool) → isSource w ≡ true �
 next-source input v at e = refl
 next-source (constant k) v at e = refl
 next-source (gate ty ps) v at e = absurd (false≢true e)
+
+-- The values in a set of nets that holds the pins of its gates depend on that set alone: on the new values of its inputs and the before
+-- values of its gates
+module _ (c : List Net) (In : ℕ → Type 0) (holds : (n p : ℕ) → In n → p ∈ pins c n → In p) where
+  pub value-same : (before before′ new new′ : ℕ → Bool) → ((n : ℕ) → In n → isSource (netAt c n) ≡ false → before n ≡ before′ n)
+      → ((n : ℕ) → In n → netAt c n ≡ input → new n ≡ new′ n)
+      → (n t : ℕ) → In n → value c before new n t ≡ value c before′ new′ n t
+  unfolding value
+  value-same before before′ new new′ hb hn n zero i = go (netAt c n) refl
+    where
+      go : (w : Net) → netAt c n ≡ w → first w (new n) (before n) ≡ first w (new′ n) (before′ n)
+      go input e = hn n i e
+      go (constant k) e = refl
+      go (gate ty ps) e = hb n i (ap isSource e)
+  value-same before before′ new new′ hb hn n (suc t) i = go (netAt c n) refl (λ m j. value-same before before′ new new′ hb hn m t j)
+    where
+      go : (w : Net) → netAt c n ≡ w → ((m : ℕ) → In m → value c before new m t ≡ value c before′ new′ m t)
+          → next w (value c before new n t) (λ p. value c before new p t) ≡ next w (value c before′ new′ n t) (λ p. value c before′ new′ p t)
+      go input e ih = ih n i
+      go (constant k) e ih = ih n i
+      go (gate ty ps) e ih = ap (gateFn ty) (map-on _ _ ps (λ p m. ih p (holds n p i (subst (λ w. p ∈ pinsOf w) (sym e) m))))
 
 module _ (c : List Net) (before new : ℕ → Bool) where
   abbrev v : ℕ → ℕ → Bool

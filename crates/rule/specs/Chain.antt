@@ -12,7 +12,7 @@ pub data Chain (c : List Net) : ℕ → ℕ → Type 0 where
   start : {n : ℕ} → isSource (netAt c n) ≡ true → Chain c n 0
   link : {n p t : ℕ} → p ∈ pins c n → Chain c p t → Chain c n (suc t)
 
--- "PC-set: {0} for inputs and constants; for a gate, the union over its pins, each element raised by 1."
+-- PC-set: "{0} for inputs and constants; for a gate, the union over its pins, each element raised by 1."
 -- t is in the set of n:
 unfoldable pub pcSet : List Net → ℕ → ℕ → Bool
 pcSet c n zero = isSource (netAt c n)

@@ -28,7 +28,7 @@ delay c n = 1
 abbrev pub gatesBack : List Net → ℕ → ℕ → ℕ
 gatesBack c k n = longest (λ g. 1) (pins c) k n
 
--- "Level: inputs and constants 0, a gate 1 more than its highest pin." A card without loops has no way of more gates than nets.
+-- Level: "inputs and constants 0, a gate 1 more than its highest pin." A card without loops has no way of more gates than nets.
 unfoldable pub level : List Net → ℕ → ℕ
 level c n = longest (delay c) (pins c) (length c + 1) n
 

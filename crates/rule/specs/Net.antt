@@ -27,7 +27,7 @@ openValue = false
 unfoldable pub atPin : {A : Type 0} → A → (ℕ → A) → ℕ → A
 atPin loose f p = cond (eqb p openPin) loose (f p)
 
--- what a number names: a net of the card; the open pin is a constant ("an open pin counts as a constant"); past the card
+-- what a number names: a net of the card; the open pin is a constant ("An open pin counts as a constant"); past the card
 -- there is nothing, and that is a constant 0 whatever an open pin is
 unfoldable pub netAt : List Net → ℕ → Net
 netAt c n = atPin (constant openValue) (λ m. getD c m (constant false)) n

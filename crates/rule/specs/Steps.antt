@@ -5,7 +5,7 @@ use mathlib.Core.List.{List, [], _∷_, map}
 use mathlib.Core.Logic.{_⊎_}
 use Prim.Native.Nat.{ℕ, _<_}
 use lib.Dec.{eqb}
-use lib.ListN.{length}
+use lib.ListN.{length, getD}
 use Rattle.lists.specs.Entries.{_∈_, each, when, from, Sorted, Distinct}
 use Rattle.word.specs.Times.{greatest, zeroIn}
 use Rattle.gate.specs.Gate.{gate as gateFn}
@@ -48,7 +48,7 @@ stepFn c k vs = gateOf (netAt c (k .net)) vs
     gateOf (constant b) vs = b
     gateOf (gate ty ps) vs = gateFn ty vs
 
--- "any order that has each step once and no step before one whose value it reads"
+-- "any order that has each step once and no step before one whose value it reads" (demand 3)
 pub record GoodOrder (c : List Net) (ks : List Step) : Type 0 where
   pub all : (k : Step) → IsStep c k → k ∈ ks
   pub only : (k : Step) → k ∈ ks → IsStep c k
@@ -74,3 +74,10 @@ netSteps c d n = each (λ t. when (pcSet c n t) (record { net = n; time = t } �
 -- "Steps are numbered from 0 by level, then net, then time."
 unfoldable pub stepList : List Net → List Step
 stepList c = each (netSteps c (depth c)) (gateOrder c)
+
+abbrev pub noStep : Step
+noStep = record { net = 0; time = 0 }
+
+-- step number e of a card
+abbrev pub stepAt : List Step → ℕ → Step
+stepAt ks e = getD ks e noStep

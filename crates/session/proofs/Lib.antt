@@ -1,6 +1,3 @@
-pub mod Fills
-pub mod Vectors
-pub mod Fields
 pub mod States
 pub mod Histories
 pub mod Held

@@ -5,22 +5,22 @@ use mathlib.Core.List.{List}
 use Prim.Native.Nat.{ℕ, _<_}
 use native.Mathlib.Omega.{arith}
 use lib.Dec.{lit<}
-use lib.ListN.{getD}
+use lib.ListN.{length, getD}
 use Rattle.lists.specs.Listed.{listed}
-use Rattle.lists.proofs.Listed.{listed-at}
+use Rattle.lists.proofs.Listed.{length-listed, listed-at}
 use Rattle.word.specs.Word.{bit, wordOf}
 use Rattle.word.proofs.Words.{bit-word, word-ext}
 use Rattle.rule.specs.Net.{Net, constant, netAt}
 use Rattle.rule.specs.Rule.{value, AtRest}
 use Rattle.rule.proofs.Values.{constant-is}
 use Rattle.rule.proofs.Rests.{ends-at-rest}
+use Rattle.inputs.specs.Inputs.{rank, inputNets, given}
+use Rattle.fields.specs.Fields.{topsOf, passed, advanced, startAt}
 use Rattle.card.specs.declared.Session.{Session}
-use Rattle.card.specs.Session.{cardOf, resting}
+use Rattle.card.specs.Session.{cardOf, wordAt, resting}
 use Rattle.card.specs.Held.{HasCard}
 use Rattle.card.proofs.Kept.{card-fits, card-level}
 use Rattle.session.specs.Good.{histories, Rested}
-use Rattle.session.specs.Inputs.{given}
-use Rattle.session.specs.Fields.{topsOf, passed, advanced, startAt}
 use Rattle.session.specs.Moves.{ends, movedBy}
 use Rattle.session.proofs.States.{rest-same}
 use Rattle.session.proofs.Held.{session-pass, advance-pass}
@@ -58,12 +58,12 @@ module _ (s : Session) (h : HasCard s) (r : Rested s) where
       ap₂ (resting s (s .rested)) eb (session-pass s h (ends s) (λ n. getD values n false) values b start words constant-ends (λ n. refl) eb es ew)
 
   -- and so are the fields along the gates from the last vector's words
-  pub words-move : (v : List ℕ) → advanced (s .kinds) (s .types) (s .counts) (s .places) (listed (λ i. getD (s .order) i 0) (s .gates)) (s .words) v
+  pub words-move : (v : List ℕ) → length v ≡ rank (s .kinds) 256 → advanced (inputNets (s .kinds) 256) (s .types) (s .counts) (s .places) (listed (λ i. getD (s .order) i 0) (s .gates)) (s .words) v
       ≡ movedBy s (given (s .kinds) v) .words
   unfolding movedBy ends histories
-  words-move v = advance-pass s h (ends s) (given (s .kinds) v) v (s .words) constant-word (λ n. refl) (λ n l. refl)
+  words-move v size = advance-pass s h (ends s) (given (s .kinds) v) v (s .words) size (ap length (r .words-are) ∙ length-listed _ 256) constant-word (λ n. refl) (λ n l. refl)
     where
-      constant-word : (n : ℕ) (k : Bool) → n < 256 → netAt c n ≡ constant k → getD (s .words) n 0 ≡ wordOf 64 (λ t. k)
+      constant-word : (n : ℕ) (k : Bool) → n < 256 → netAt c n ≡ constant k → wordAt s n ≡ wordOf 64 (λ t. k)
       constant-word n k l e =
           ap (λ ws. getD ws n 0) (r .words-are) ∙ listed-at (λ m. wordOf 64 (value c (r .old) (r .new) m)) 256 n 0 l
           ∙ word-ext 64 (value c (r .old) (r .new) n) (λ t. k) (λ t b. constant-is c (r .old) (r .new) n t k e)

@@ -1,7 +1,7 @@
 -- Rest and a vector: each number exactly when document 01 gives it, in its order; a refusal leaves the session; and two results that a
 -- contract allows are equal. Assumes nothing.
-use mathlib.Core.Path.{_≡_, refl, sym, subst}
-use mathlib.Core.Bool.{Bool, true, false, cond}
+use mathlib.Core.Path.{_≡_, refl, sym, ap, _∙_, subst}
+use mathlib.Core.Bool.{Bool, true, false, cond, true≢false}
 use mathlib.Core.List.{List}
 use Prim.Native.Nat.{ℕ}
 use native.Mathlib.Omega.{arith}
@@ -13,63 +13,95 @@ use Rattle.lists.proofs.Tests.{every-yes, every-at, every-no, every-fails}
 use Rattle.rule.specs.declared.Refusal.{Refusal}
 use Rattle.rule.specs.declared.Refusal.the-variants.{NotReady, VectorLength, VectorByte}
 use Rattle.rule.specs.declared.Answer.the-variants.{Done, Refused}
+use Rattle.wiring.specs.declared.Verdict.{Verdict}
 use Rattle.wiring.specs.declared.Verdict.the-variants.{Refused as Faulty, Passed}
+use Rattle.inputs.specs.Inputs.{byteFits, given, vectorFits}
+use Rattle.inputs.specs.Allowed.{byteLimit, Vector, Gets, gets-12, gets-10, gets-11}
 use Rattle.card.specs.declared.Session.{Session}
 use Rattle.session.specs.declared.Moved.{Moved}
-use Rattle.session.specs.Inputs.{byteFits, given, vectorFits}
 use Rattle.session.specs.Moves.{refusedMove, moving, movedBy, vectorOf, restedBy, restOf}
-use Rattle.session.specs.Allowed.{Vector, Gets, gets-12, gets-10, gets-11}
 
 -- Vectors that fit
 
 pub vector-fits : (inputs : ℕ) (v : List ℕ) → Vector inputs v → vectorFits inputs v ≡ Passed
 unfolding vectorFits
-vector-fits inputs v r = rw (eq-eqb (length v) inputs (r .size), every-yes byteFits v (λ b m. lt-ltb b 2 (r .bits b m)))
+vector-fits inputs v r = rw (eq-eqb (length v) inputs (r .size), every-yes byteFits v (λ b m. lt-ltb b byteLimit (r .bits b m)))
 
--- A result with its reason, for any test of readiness and any next session
+-- and what fits is a vector
+pub fits-vector : (inputs : ℕ) (v : List ℕ) → length v ≡ inputs → every byteFits v ≡ true → Vector inputs v
+fits-vector inputs v l e = record { size = l; bits = λ b m. ltb-true b byteLimit (every-at byteFits v e b m) }
+
+-- A vector's verdict with its reason
+
+pub data Fitting (inputs : ℕ) (v : List ℕ) : Verdict → Type 0 where
+  misfit : (r : Refusal) → Gets true inputs v r → Fitting inputs v (Faulty r)
+  fits : Vector inputs v → Fitting inputs v Passed
+
+pub fitting : (inputs : ℕ) (v : List ℕ) → Fitting inputs v (vectorFits inputs v)
+unfolding vectorFits
+fitting inputs v = go (eqb (length v) inputs) refl (every byteFits v) refl
+  where
+    go : (a : Bool) → eqb (length v) inputs ≡ a → (b : Bool) → every byteFits v ≡ b → Fitting inputs v (cond a (cond b Passed (Faulty VectorByte)) (Faulty VectorLength))
+    go false p b q = misfit VectorLength (gets-10 refl (eqb-false (length v) inputs p))
+    go true p false q = let w = every-fails byteFits v q in misfit VectorByte (gets-11 refl (eqb-true (length v) inputs p) (w .0) (w .1) (ltb-false (w .0) byteLimit (w .2)))
+    go true p true q = fits (fits-vector inputs v (eqb-true (length v) inputs p) q)
+
+-- a number that applies is the verdict where all is ready, and else it is 12
+pub misfit-is : (inputs : ℕ) (v : List ℕ) (ready : Bool) (r : Refusal) → ready ≡ true → Gets ready inputs v r → vectorFits inputs v ≡ Faulty r
+unfolding vectorFits
+misfit-is inputs v ready r e (gets-12 n) = let z : true ≡ false = sym e ∙ n in absurd (true≢false z)
+misfit-is inputs v ready r e (gets-10 y l) = rw (ne-eqb (length v) inputs l)
+misfit-is inputs v ready r e (gets-11 y l b m h) = rw (eq-eqb (length v) inputs l, every-no byteFits v b m (le-ltb b byteLimit h))
+
+pub only-12 : (inputs : ℕ) (v : List ℕ) (ready : Bool) (r : Refusal) → ready ≡ false → Gets ready inputs v r → r ≡ NotReady
+only-12 inputs v ready r e (gets-12 n) = refl
+only-12 inputs v ready r e (gets-10 y l) = absurd (true≢false (sym y ∙ e))
+only-12 inputs v ready r e (gets-11 y l b m h) = absurd (true≢false (sym y ∙ e))
+
+-- The tests of an operation that takes a vector, one after another, for any test of readiness, any count and any next session: it is refused
+-- exactly where a number applies, and then nothing is moved
+
+module _ (s : Session) (v : List ℕ) (count : ℕ) (next : Session) where
+  abbrev tested : Bool → Moved
+  tested ready = cond ready (moving s (vectorFits (s .inputs) v) count next) (refusedMove s NotReady)
+
+  pub gets-refused : (ready : Bool) (r : Refusal) → Gets ready (s .inputs) v r → tested ready ≡ refusedMove s r
+  gets-refused ready r g = go ready refl
+    where
+      go : (b : Bool) → ready ≡ b → tested b ≡ refusedMove s r
+      go false e = ap (refusedMove s) (sym (only-12 (s .inputs) v ready r e g))
+      go true e = ap (λ f. moving s f count next) (misfit-is (s .inputs) v ready r e g)
+
+  pub refused-gets : (ready : Bool) (r : Refusal) → tested ready .answer ≡ Refused r → Gets ready (s .inputs) v r × (tested ready .session ≡ s)
+  refused-gets ready r e = go ready (vectorFits (s .inputs) v) (fitting (s .inputs) v) e
+    where
+      go : (b : Bool) (f : Verdict) → Fitting (s .inputs) v f → cond b (moving s f count next) (refusedMove s NotReady) .answer ≡ Refused r
+          → Gets b (s .inputs) v r × (cond b (moving s f count next) (refusedMove s NotReady) .session ≡ s)
+      go false f w e = let h : NotReady ≡ r = cc in (subst (Gets false (s .inputs) v) h (gets-12 refl), refl)
+      go true f (misfit q g) e = let h : q ≡ r = cc in (subst (Gets true (s .inputs) v) h g, refl)
+      go true f (fits w) e = let z : _≡_ {A = ℕ} 0 1 = cc in absurd (omega arith)
+
+-- A result with its reason, where the count is 0
 
 pub data Ruling (ready : Bool) (s : Session) (v : List ℕ) (next : Session) : Moved → Type 0 where
   refuses : (r : Refusal) → Gets ready (s .inputs) v r → Ruling ready s v next (refusedMove s r)
   takes : ready ≡ true → Vector (s .inputs) v → Ruling ready s v next (record { answer = Done 0; session = next })
 
 module _ (s : Session) (v : List ℕ) (next : Session) where
-  -- rest's and a vector's tests, one after another
-  abbrev tested : Bool → Moved
-  tested ready = cond ready (moving s (vectorFits (s .inputs) v) 0 next) (refusedMove s NotReady)
-
-  ruled : (ready : Bool) → Ruling ready s v next (tested ready)
-  unfolding vectorFits
+  ruled : (ready : Bool) → Ruling ready s v next (tested s v 0 next ready)
   ruled false = refuses NotReady (gets-12 refl)
-  ruled true = by-length (eqb (length v) (s .inputs)) refl
+  ruled true = go (vectorFits (s .inputs) v) (fitting (s .inputs) v)
     where
-      by-bytes : length v ≡ s .inputs → (b : Bool) → every byteFits v ≡ b → Ruling true s v next (moving s (cond b Passed (Faulty VectorByte)) 0 next)
-      by-bytes l true q = takes refl (record { size = l; bits = λ b m. ltb-true b 2 (every-at byteFits v q b m) })
-      by-bytes l false q = let w = every-fails byteFits v q in refuses VectorByte (gets-11 refl l (w .0) (w .1) (ltb-false (w .0) 2 (w .2)))
-
-      by-length : (b : Bool) → eqb (length v) (s .inputs) ≡ b
-          → Ruling true s v next (moving s (cond b (cond (every byteFits v) Passed (Faulty VectorByte)) (Faulty VectorLength)) 0 next)
-      by-length true q = by-bytes (eqb-true (length v) (s .inputs) q) (every byteFits v) refl
-      by-length false q = refuses VectorLength (gets-10 refl (eqb-false (length v) (s .inputs) q))
+      go : (f : Verdict) → Fitting (s .inputs) v f → Ruling true s v next (moving s f 0 next)
+      go f (misfit r g) = refuses r g
+      go f (fits w) = takes refl w
 
   module _ (ready : Bool) where
-    gets-refused : (r : Refusal) → Gets ready (s .inputs) v r → tested ready ≡ refusedMove s r
-    unfolding vectorFits
-    gets-refused r (gets-12 e) = rw e
-    gets-refused r (gets-10 e l) = rw (e, ne-eqb (length v) (s .inputs) l)
-    gets-refused r (gets-11 e l b m h) = rw (e, eq-eqb (length v) (s .inputs) l, every-no byteFits v b m (le-ltb b 2 h))
-
-    refused-gets : (r : Refusal) → tested ready .answer ≡ Refused r → Gets ready (s .inputs) v r × (tested ready .session ≡ s)
-    refused-gets r e = go (tested ready) (ruled ready) e
-      where
-        go : (x : Moved) → Ruling ready s v next x → x .answer ≡ Refused r → Gets ready (s .inputs) v r × (x .session ≡ s)
-        go x (refuses q g) e = let h : q ≡ r = cc in (subst (Gets ready (s .inputs) v) h g, refl)
-        go x (takes l w) e = let z : _≡_ {A = ℕ} 0 1 = cc in absurd (omega arith)
-
-    fits-taken : ready ≡ true → Vector (s .inputs) v → tested ready ≡ record { answer = Done 0; session = next }
+    fits-taken : ready ≡ true → Vector (s .inputs) v → tested s v 0 next ready ≡ record { answer = Done 0; session = next }
     fits-taken e w = rw (e, vector-fits (s .inputs) v w)
 
-    taken-fits : (k : ℕ) → tested ready .answer ≡ Done k → (ready ≡ true) × Vector (s .inputs) v × (k ≡ 0)
-    taken-fits k e = go (tested ready) (ruled ready) e
+    taken-fits : (k : ℕ) → tested s v 0 next ready .answer ≡ Done k → (ready ≡ true) × Vector (s .inputs) v × (k ≡ 0)
+    taken-fits k e = go (tested s v 0 next ready) (ruled ready) e
       where
         go : (x : Moved) → Ruling ready s v next x → x .answer ≡ Done k → (ready ≡ true) × Vector (s .inputs) v × (k ≡ 0)
         go x (refuses q g) e = let z : _≡_ {A = ℕ} 0 1 = cc in absurd (omega arith)
@@ -84,11 +116,11 @@ module _ (s : Session) (v : List ℕ) where
 
   pub rest-refuses : (r : Refusal) → Gets (s .loaded) (s .inputs) v r → restOf s v ≡ refusedMove s r
   unfolding restOf
-  rest-refuses r g = gets-refused s v (restedBy s (given (s .kinds) v)) (s .loaded) r g
+  rest-refuses r g = gets-refused s v 0 (restedBy s (given (s .kinds) v)) (s .loaded) r g
 
   pub rest-refused : (r : Refusal) → restOf s v .answer ≡ Refused r → Gets (s .loaded) (s .inputs) v r × (restOf s v .session ≡ s)
   unfolding restOf
-  rest-refused r e = refused-gets s v (restedBy s (given (s .kinds) v)) (s .loaded) r e
+  rest-refused r e = refused-gets s v 0 (restedBy s (given (s .kinds) v)) (s .loaded) r e
 
   pub rest-takes : s .loaded ≡ true → Vector (s .inputs) v → restOf s v ≡ record { answer = Done 0; session = restedBy s (given (s .kinds) v) }
   unfolding restOf
@@ -106,11 +138,11 @@ module _ (s : Session) (v : List ℕ) where
 
   pub vector-refuses : (r : Refusal) → Gets (s .rested) (s .inputs) v r → vectorOf s v ≡ refusedMove s r
   unfolding vectorOf
-  vector-refuses r g = gets-refused s v (movedBy s (given (s .kinds) v)) (s .rested) r g
+  vector-refuses r g = gets-refused s v 0 (movedBy s (given (s .kinds) v)) (s .rested) r g
 
   pub vector-refused : (r : Refusal) → vectorOf s v .answer ≡ Refused r → Gets (s .rested) (s .inputs) v r × (vectorOf s v .session ≡ s)
   unfolding vectorOf
-  vector-refused r e = refused-gets s v (movedBy s (given (s .kinds) v)) (s .rested) r e
+  vector-refused r e = refused-gets s v 0 (movedBy s (given (s .kinds) v)) (s .rested) r e
 
   pub vector-takes : s .rested ≡ true → Vector (s .inputs) v → vectorOf s v ≡ record { answer = Done 0; session = movedBy s (given (s .kinds) v) }
   unfolding vectorOf

@@ -1,27 +1,28 @@
 -- After a rest and any list of vectors that fit, the session's words and before values are the rule's for the last vector. By induction on
 -- the list. Assumes nothing.
 use mathlib.Core.Path.{_≡_, refl, sym, ap, _∙_, subst}
-use mathlib.Core.Bool.{Bool, true, false}
+use mathlib.Core.Bool.{Bool, true}
 use mathlib.Core.List.{List, [], _∷_, _++_, List·Memᴰ·head, List·Memᴰ·tail}
 use Prim.Native.Nat.{ℕ, _<_}
 use native.Mathlib.Omega.{arith}
 use lib.Dec.{lit<}
-use lib.ListN.{length, getD}
+use lib.ListN.{length}
 use Rattle.lists.specs.Entries.{_∈_}
 use Rattle.word.specs.Word.{bit}
 use Rattle.rule.specs.Net.{Net}
 use Rattle.rule.specs.Rule.{value, Rest}
 use Rattle.rule.specs.declared.Answer.the-variants.{Done}
+use Rattle.rule.proofs.Nets.{gate-listed}
+use Rattle.rule.proofs.Values.{value-same}
+use Rattle.inputs.specs.Inputs.{given}
+use Rattle.inputs.specs.Allowed.{Vector}
 use Rattle.card.specs.declared.Session.{Session}
-use Rattle.card.specs.Session.{cardOf}
+use Rattle.card.specs.Session.{cardOf, wordAt, beforeAt}
 use Rattle.card.specs.Held.{HasCard}
 use Rattle.card.proofs.Kept.{nets-are, card-fits}
 use Rattle.session.specs.Good.{Good}
-use Rattle.session.specs.Inputs.{given, givenTo}
-use Rattle.session.specs.Moves.{ends, movedBy, vectorOf, restedBy, restOf}
-use Rattle.session.specs.Allowed.{Vector}
+use Rattle.session.specs.Moves.{givenTo, ends, movedBy, vectorOf, restedBy, restOf}
 use Rattle.session.specs.Sequence.{after, stateAfter}
-use Rattle.session.proofs.States.{value-same}
 use Rattle.session.proofs.Held.{given-card}
 use Rattle.session.proofs.Refusals.{rest-takes, vector-takes}
 use Rattle.session.proofs.Kept.{rest-good, vector-good}
@@ -59,10 +60,11 @@ module _ {c : List Net} {inputs : ℕ} {state : ℕ → Bool} {t : Session} (at 
   value-here : (n u : ℕ) → value (cardOf t) (ends t) (given (t .kinds) v) n u ≡ value c state (givenTo c v) n u
   value-here n u =
       ap (λ d. value d (ends t) (given (t .kinds) v) n u) (at .same-card)
-      ∙ value-same c (ends t) state (given (t .kinds) v) (givenTo c v) (at .ends-are) (λ m l. given-card t card v m ∙ ap (λ d. givenTo d v m) (at .same-card)) n u
+      ∙ value-same c (λ m. Unit {0}) (λ m p i j. tt) (ends t) state (given (t .kinds) v) (givenTo c v) (λ m i e. at .ends-are m (gate-listed c m e))
+      (λ m i e. given-card t card v m ∙ ap (λ d. givenTo d v m) (at .same-card)) n u tt
 
   stands-rule : (n : ℕ) → n < length c
-      → ((u : ℕ) → u < 64 → bit (getD (vectorOf t v .session .words) n 0) u ≡ value c state (givenTo c v) n u) × (getD (vectorOf t v .session .before) n false ≡ state n)
+      → ((u : ℕ) → u < 64 → bit (wordAt (vectorOf t v .session) n) u ≡ value c state (givenTo c v) n u) × (beforeAt (vectorOf t v .session) n ≡ state n)
   stands-rule n l =
       let here = vector-rule t (at .good) (at .rested) v fits-here n (omega (arith, nets-are t card, ap length (at .same-card))) in
       (λ u b. here .0 u b ∙ value-here n u, here .1 ∙ at .ends-are n l)
@@ -126,9 +128,9 @@ module _ (s : Session) (g : Good s) (loaded : s .loaded ≡ true) (u : List ℕ)
 
       -- whatever settled state the rest is, the history is the rule's for the last vector, from what the earlier ones left of that state
       pub sequence-rule : (n : ℕ) → n < s .nets
-          → ((t : ℕ) → t < 64 → bit (getD (after (restOf s u .session) (vs ++ (v ∷ [])) .words) n 0) t ≡ value c (stateAfter c start vs) (givenTo c v) n t)
-          × (getD (after (restOf s u .session) (vs ++ (v ∷ [])) .before) n false ≡ stateAfter c start vs n)
+          → ((t : ℕ) → t < 64 → bit (wordAt (after (restOf s u .session) (vs ++ (v ∷ []))) n) t ≡ value c (stateAfter c start vs) (givenTo c v) n t)
+          × (beforeAt (after (restOf s u .session) (vs ++ (v ∷ []))) n ≡ stateAfter c start vs n)
       sequence-rule n l =
           let more = after-more (restOf s u .session) vs v in
           let here = stands-rule (after-stands rest-stands vs all) v last n (omega (arith, nets-are s (g .card loaded))) in
-          (λ t b. ap (λ x. bit (getD (x .words) n 0) t) more ∙ here .0 t b, ap (λ x. getD (x .before) n false) more ∙ here .1)
+          (λ t b. ap (λ x. bit (wordAt x n) t) more ∙ here .0 t b, ap (λ x. beforeAt x n) more ∙ here .1)

@@ -15,12 +15,12 @@ use Rattle.rule.specs.Net.{Net}
 use Rattle.rule.specs.Rule.{value, Rest}
 use Rattle.rule.proofs.Nets.{not-open}
 use Rattle.rule.proofs.Rests.{rest-exists, settles-at-level}
+use Rattle.fields.specs.Fields.{topsOf, passed, startAt, constantAt}
 use Rattle.card.specs.declared.Session.{Session}
 use Rattle.card.specs.Session.{cardOf, resting}
 use Rattle.card.specs.Held.{HasCard}
 use Rattle.card.proofs.Kept.{card-fits, card-level}
 use Rattle.session.specs.Good.{histories}
-use Rattle.session.specs.Fields.{topsOf, passed, startAt, constantAt}
 use Rattle.session.specs.Moves.{settled, restedBy}
 use Rattle.session.proofs.States.{past-zero, rest-stays}
 use Rattle.session.proofs.Held.{session-pass, constant-held}

@@ -1,19 +1,17 @@
--- States of a card: what the rule's values depend on, that a rest is kept, and what stands past the card. Assumes nothing.
+-- States of a card: what a rest depends on, that it is kept, and what stands past the card. Assumes nothing.
 use mathlib.Core.Path.{_≡_, refl, sym, ap, _∙_, subst}
 use mathlib.Core.Bool.{Bool, false, cond}
 use mathlib.Core.List.{List, map}
 use mathlib.Core.Logic.{_⊎_, inl, inr}
 use Prim.Native.Nat.{ℕ, zero, suc, _≤_, _<_}
-use native.Mathlib.Omega.{arith}
-use native.Mathlib.Decide.{decLt}
 use lib.Dec.{eqb}
 use lib.ListN.{length, getD, List·getD-eq-default}
 use Rattle.lists.specs.Entries.{_∈_}
 use Rattle.lists.proofs.Tests.{map-on, map-ext}
 use Rattle.gate.specs.Gate.{gate as gateFn}
-use Rattle.rule.specs.Net.{Net, input, constant, gate, openPin, openValue, atPin, netAt, pinsOf, isSource, Named}
+use Rattle.rule.specs.Net.{Net, input, constant, gate, openPin, openValue, atPin, netAt, pinsOf, Named}
 use Rattle.rule.specs.Rule.{first, next, value, Settled, AtRest, Rest}
-use Rattle.rule.proofs.Nets.{at-open, at-net, at-pin-all, gate-listed}
+use Rattle.rule.proofs.Nets.{at-open, at-net}
 use Rattle.rule.proofs.Values.{constant-is, open-reads}
 
 -- past the card, and not the open pin's number, is a constant 0
@@ -24,47 +22,13 @@ net-past c n l h = at-net (constant openValue) (λ m. getD c m (constant false))
 pub past-zero : (c : List Net) (before new : ℕ → Bool) (n t : ℕ) → length c ≤ n → ¬ (n ≡ openPin) → value c before new n t ≡ false
 past-zero c before new n t l h = constant-is c before new n t false (net-past c n l h)
 
--- an input is a net of the card
-input-listed : (c : List Net) (n : ℕ) → netAt c n ≡ input → n < length c
-unfolding netAt
-input-listed c n e = go (decLt n (length c))
-  where
-    isConstant : Net → Type 0
-    isConstant input = ⊥
-    isConstant (constant k) = Unit {0}
-    isConstant (gate ty ps) = ⊥
-
-    go : Dec (n < length c) → n < length c
-    go (yes l) = l
-    go (no l) =
-        absurd
-        (subst isConstant e
-        (at-pin-all (λ p w. isConstant w) (constant openValue) (λ m. getD c m (constant false)) n tt (subst isConstant (sym (List·getD-eq-default c (constant false) (omega arith))) tt)))
-
 module _ (c : List Net) where
   -- two states are the same on the card
   abbrev pub Same : (ℕ → Bool) → (ℕ → Bool) → Type 0
   Same v w = (n : ℕ) → n < length c → v n ≡ w n
 
-  -- the rule's values depend on the card's nets alone
-  pub value-same : (before before′ new new′ : ℕ → Bool) → Same before before′ → Same new new′ → (n t : ℕ) → value c before new n t ≡ value c before′ new′ n t
-  unfolding value
-  value-same before before′ new new′ hb hn n zero = go (netAt c n) refl
-    where
-      go : (w : Net) → netAt c n ≡ w → first w (new n) (before n) ≡ first w (new′ n) (before′ n)
-      go input e = hn n (input-listed c n e)
-      go (constant k) e = refl
-      go (gate ty ps) e = hb n (gate-listed c n (ap isSource e))
-  value-same before before′ new new′ hb hn n (suc t) = go (netAt c n) (λ m. value-same before before′ new new′ hb hn m t)
-    where
-      go : (w : Net) → ((m : ℕ) → value c before new m t ≡ value c before′ new′ m t)
-          → next w (value c before new n t) (λ p. value c before new p t) ≡ next w (value c before′ new′ n t) (λ p. value c before′ new′ p t)
-      go input ih = ih n
-      go (constant k) ih = ih n
-      go (gate ty ps) ih = ap (gateFn ty) (map-ext _ _ ps ih)
-
   module _ (named : Named c) where
-    -- and so does what a gate's pins read
+    -- what a gate's pins read depends on the card's nets alone
     pins-same : (v w : ℕ → Bool) → Same v w → (n ty : ℕ) (ps : List ℕ) → netAt c n ≡ gate ty ps → map (atPin openValue v) ps ≡ map (atPin openValue w) ps
     unfolding atPin
     pins-same v w h n ty ps e = map-on (atPin openValue v) (atPin openValue w) ps (λ p m. at p (named n p (subst (λ x. p ∈ pinsOf x) (sym e) m)))

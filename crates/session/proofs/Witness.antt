@@ -10,7 +10,6 @@ use lib.ListN.{length}
 use borrow.Author.Tests.{ltb-true}
 use Rattle.lists.specs.Entries.{every}
 use Rattle.lists.proofs.Bools.{and-both}
-use Rattle.lists.proofs.Tests.{every-at}
 use Rattle.word.specs.Times.{count}
 use Rattle.rule.specs.Net.{openPin, atPin, netAt}
 use Rattle.rule.specs.Chain.{pcSet}
@@ -19,26 +18,21 @@ use Rattle.rule.specs.Steps.{gateOrder, netSteps, stepList}
 use Rattle.rule.specs.declared.Answer.the-variants.{Done}
 use Rattle.wiring.specs.declared.Verdict.the-variants.{Passed}
 use Rattle.wiring.specs.Wired.{pinsFit, mostBack, wiredOf}
+use Rattle.inputs.specs.Inputs.{given}
 use Rattle.records.specs.Written.{Bytes}
 use Rattle.records.proofs.Example.{exampleBytes, exampleCard, example-read}
 use Rattle.card.specs.declared.Session.{Session}
 use Rattle.card.specs.Session.{none, inputsOf, sessionOf}
-use Rattle.card.specs.Load.{concluded, judged, loadMeant, loadOf}
-use Rattle.card.proofs.Verdicts.{taken}
+use Rattle.card.specs.Load.{concluded, judged, loadMeant, loadOf, taken}
 use Rattle.session.specs.Good.{Good}
-use Rattle.session.specs.Inputs.{byteFits, given}
 use Rattle.session.specs.Moves.{movedBy, vectorOf, restedBy, restOf}
-use Rattle.session.specs.Allowed.{Vector}
-use Rattle.session.proofs.Refusals.{rest-takes, vector-takes}
+use Rattle.session.proofs.Refusals.{fits-vector, rest-takes, vector-takes}
 use Rattle.session.proofs.Kept.{none-good, load-good, rest-good, vector-good}
 
 bytes-below : (s : List ℕ) → every (λ b. ltb b 256) s ≡ true → Bytes s
 bytes-below [] e i = omega arith
 bytes-below (b ∷ s) e zero = ltb-true b 256 (and-both (ltb b 256) _ e .0)
 bytes-below (b ∷ s) e (suc i) = bytes-below s (and-both (ltb b 256) _ e .1) i
-
-bits-below : (inputs : ℕ) (v : List ℕ) → length v ≡ inputs → every byteFits v ≡ true → Vector inputs v
-bits-below inputs v l e = record { size = l; bits = λ b m. ltb-true b 2 (every-at byteFits v e b m) }
 
 -- Load
 
@@ -55,7 +49,7 @@ three-inputs = refl
 
 pub example-load : loadOf none exampleBytes ≡ taken exampleCard
 unfolding loadOf judged
-example-load = ap (loadMeant none) example-read ∙ rw three-inputs (ap (concluded none exampleCard) verdict)
+example-load = ap (loadMeant none) example-read ∙ rw three-inputs (ap (concluded none exampleCard (length exampleCard)) verdict)
 
 card-loaded : (exampleLoaded .loaded ≡ true) × (exampleLoaded .inputs ≡ 3) × (exampleLoaded .gates ≡ 2)
 unfolding exampleLoaded sessionOf openPin atPin netAt longest level depth gateOrder
@@ -67,7 +61,7 @@ pub exampleRested : Session
 exampleRested = restOf exampleLoaded (0 ∷ 1 ∷ 1 ∷ []) .session
 
 pub example-rest : restOf exampleLoaded (0 ∷ 1 ∷ 1 ∷ []) ≡ record { answer = Done 0; session = restedBy exampleLoaded (given (exampleLoaded .kinds) (0 ∷ 1 ∷ 1 ∷ [])) }
-example-rest = rest-takes exampleLoaded (0 ∷ 1 ∷ 1 ∷ []) (card-loaded .0) (bits-below _ _ (sym (card-loaded .1)) refl)
+example-rest = rest-takes exampleLoaded (0 ∷ 1 ∷ 1 ∷ []) (card-loaded .0) (fits-vector _ _ (sym (card-loaded .1)) refl)
 
 card-rested : (exampleRested .rested ≡ true) × (exampleRested .inputs ≡ 3) × (exampleRested .gates ≡ 2)
 unfolding exampleRested restedBy
@@ -79,7 +73,7 @@ pub exampleMoved : Session
 exampleMoved = vectorOf exampleRested (1 ∷ 1 ∷ 0 ∷ []) .session
 
 pub example-vector : vectorOf exampleRested (1 ∷ 1 ∷ 0 ∷ []) ≡ record { answer = Done 0; session = movedBy exampleRested (given (exampleRested .kinds) (1 ∷ 1 ∷ 0 ∷ [])) }
-example-vector = vector-takes exampleRested (1 ∷ 1 ∷ 0 ∷ []) (card-rested .0) (bits-below _ _ (sym (card-rested .1)) refl)
+example-vector = vector-takes exampleRested (1 ∷ 1 ∷ 0 ∷ []) (card-rested .0) (fits-vector _ _ (sym (card-rested .1)) refl)
 
 -- the predicate is met by the session that a real card leaves: loaded, at rest, and after a vector
 

@@ -1,6 +1,3 @@
 pub mod Good
-pub mod Inputs
-pub mod Fields
 pub mod Moves
-pub mod Allowed
 pub mod Sequence

@@ -4,19 +4,24 @@ use mathlib.Core.List.{List}
 use Prim.Native.Nat.{ℕ}
 use lib.ListN.{getD}
 use Rattle.lists.specs.Listed.{listed}
-use Rattle.word.specs.Word.{bit, wordOf}
-use Rattle.rule.specs.Net.{Net}
+use Rattle.word.specs.Word.{bit, wordOf, isOne}
+use Rattle.word.specs.Times.{count}
+use Rattle.rule.specs.Net.{Net, netAt}
 use Rattle.rule.specs.Rule.{value}
 use Rattle.rule.specs.declared.Refusal.{Refusal}
 use Rattle.rule.specs.declared.Refusal.the-variants.{NotReady}
 use Rattle.rule.specs.declared.Answer.the-variants.{Done, Refused}
 use Rattle.wiring.specs.declared.Verdict.{Verdict}
 use Rattle.wiring.specs.declared.Verdict.the-variants.{Refused as Faulty, Passed}
+use Rattle.inputs.specs.Inputs.{given, vectorFits}
 use Rattle.card.specs.declared.Session.{Session}
-use Rattle.card.specs.Session.{cardOf, resting}
+use Rattle.card.specs.Session.{cardOf, wordAt, resting, isInput}
 use Rattle.session.specs.declared.Moved.{Moved}
 use Rattle.session.specs.Good.{histories}
-use Rattle.session.specs.Inputs.{given, vectorFits}
+
+-- the value that a vector gives net n of a card: input j's is byte j; only inputs are given any
+unfoldable pub givenTo : List Net → List ℕ → ℕ → Bool
+givenTo c v n = cond (isInput (netAt c n)) (isOne (getD v (count (λ m. isInput (netAt c m)) n) 0)) false
 
 abbrev pub refusedMove : Session → Refusal → Moved
 refusedMove s why = record { answer = Refused why; session = s }
@@ -28,7 +33,7 @@ moving s Passed count next = record { answer = Done count; session = next }
 
 -- "The value at 63 is the next before value."
 unfoldable pub ends : Session → ℕ → Bool
-ends s n = bit (getD (s .words) n 0) 63
+ends s n = bit (wordAt s n) 63
 
 -- a vector moves a session: the histories are the rule's, from the last vector's end
 unfoldable pub movedBy : Session → (ℕ → Bool) → Session
@@ -38,7 +43,7 @@ movedBy s new = resting s (s .rested) (listed (ends s) 256) (histories (cardOf s
 unfoldable pub vectorOf : Session → List ℕ → Moved
 vectorOf s v = cond (s .rested) (moving s (vectorFits (s .inputs) v) 0 (movedBy s (given (s .kinds) v))) (refusedMove s NotReady)
 
--- the settled value of every net: what it has at time 63, from any start
+-- the settled value of every net: what it has at time 63, from zeros; any other start gives the same (`rest-only`)
 unfoldable pub settled : List Net → (ℕ → Bool) → ℕ → Bool
 settled c new n = value c (λ m. false) new n 63
 

@@ -5,8 +5,7 @@ use Prim.Native.Nat.{ℕ}
 use Rattle.rule.specs.Net.{Net}
 use Rattle.rule.specs.Rule.{value}
 use Rattle.card.specs.declared.Session.{Session}
-use Rattle.session.specs.Inputs.{givenTo}
-use Rattle.session.specs.Moves.{vectorOf}
+use Rattle.session.specs.Moves.{givenTo, vectorOf}
 
 -- the session that some vectors leave, each handed to the session that the one before left
 unfoldable pub after : Session → List (List ℕ) → Session

@@ -1,46 +1,28 @@
--- What the first line says of a session's card, and the lines of its histories from the slices that history fills. Assumes nothing.
+-- The lines of a session's histories, from the slices that history fills. Assumes nothing.
 use mathlib.Core.Path.{_≡_, ap, ap₂, _∙_}
 use mathlib.Core.Bool.{true}
 use mathlib.Core.List.{List}
-use Prim.Native.Nat.{ℕ, _+_, _≤_, _<_}
+use Prim.Native.Nat.{ℕ, _≤_, _<_}
 use native.Mathlib.Omega.{arith}
 use lib.ListN.{length, getD, replicate, length-replicate}
 use Rattle.lists.specs.Entries.{each, from}
-use Rattle.lists.specs.Listed.{listed}
 use Rattle.lists.proofs.Joined.{out-from, each-ext}
+use Rattle.lists.proofs.Rooms.{filled-at}
 use Rattle.word.specs.Word.{val}
 use Rattle.rule.specs.Net.{Net}
 use Rattle.rule.specs.Level.{depth}
-use Rattle.rule.specs.Steps.{stepList}
 use Rattle.rule.specs.declared.Answer.{Answer}
-use Rattle.wiring.specs.Layout.{countsOf, placesOf}
-use Rattle.wiring.specs.Wires.{backs, highest, sizesOf}
-use Rattle.wiring.proofs.Layouts.{levels-laid, depth-laid}
-use Rattle.wiring.proofs.CardSets.{sizes-laid}
 use Rattle.card.specs.declared.Session.{Session}
-use Rattle.card.specs.Session.{cardOf}
+use Rattle.card.specs.Session.{cardOf, wordAt, beforeAt}
 use Rattle.card.specs.Held.{HasCard}
-use Rattle.card.proofs.Kept.{nets-are, counts-are, places-are, sets-are, card-fits, card-depth}
-use Rattle.session.proofs.Held.{order-back}
-use Rattle.history.specs.Told.{Told, wordAt, beforeAt, flagAt, historyOf}
-use Rattle.history.proofs.Fills.{fill-at}
-use Rattle.history.proofs.Ran.{few}
+use Rattle.card.proofs.Kept.{few}
+use Rattle.history.specs.Told.{Told, beforeByte, flagAt, historyOf}
 use Rattle.history.proofs.Histories.{written, gives-0}
 use Rattle.sheet_text.specs.Lines.{netLine, historyLine}
 
 module _ (s : Session) (h : HasCard s) where
   abbrev c : List Net
   c = cardOf s
-
-  pub depth-is : highest (backs (s .counts) (s .places) (s .nets + 1)) (s .nets) ≡ depth c
-  depth-is =
-      ap₂ (λ x y. highest (backs x y (s .nets + 1)) (s .nets)) (counts-are s h) (places-are s h)
-      ∙ ap (λ k. highest (backs (countsOf c) (placesOf c) (k + 1)) k) (nets-are s h)
-      ∙ ap (λ xs. highest xs (length c)) (levels-laid c (card-fits s h .fits))
-      ∙ depth-laid c (card-fits s h .fits)
-
-  pub steps-is : sizesOf (s .sets) (listed (λ i. getD (s .order) i 0) (s .gates)) ≡ length (stepList c)
-  steps-is = ap₂ sizesOf (sets-are s h) (order-back s h) ∙ sizes-laid c (h .accepted .free) (card-fits s h .fits) (card-depth s h)
 
   -- three slices of 256 that history filled
   module _ (rested : s .rested ≡ true) (a : Answer) (ws bs fs : List ℕ)
@@ -60,9 +42,9 @@ module _ (s : Session) (h : HasCard s) where
       unfolding historyLine
       line-is n l =
           let b : getD bs n 0 ≡ val (beforeAt s n) = ap (λ x. getD (x .befores) n 0) filled-as
-          ∙ fill-at (λ m. val (beforeAt s m)) none (s .nets) n l roomy in
-          let w : getD ws n 0 ≡ wordAt s n = ap (λ x. getD (x .words) n 0) filled-as ∙ fill-at (wordAt s) none (s .nets) n l roomy in
-          let f : getD fs n 0 ≡ flagAt s n = ap (λ x. getD (x .flags) n 0) filled-as ∙ fill-at (flagAt s) none (s .nets) n l roomy in
+          ∙ filled-at (beforeByte s) none (s .nets) n l roomy in
+          let w : getD ws n 0 ≡ wordAt s n = ap (λ x. getD (x .words) n 0) filled-as ∙ filled-at (wordAt s) none (s .nets) n l roomy in
+          let f : getD fs n 0 ≡ flagAt s n = ap (λ x. getD (x .flags) n 0) filled-as ∙ filled-at (flagAt s) none (s .nets) n l roomy in
           ap₂ (λ x y. netLine (depth c) n x y (getD fs n 0)) b w ∙ ap (netLine (depth c) n (val (beforeAt s n)) (wordAt s n)) f
 
       pub lines-are : (d : ℕ) → d ≡ depth c

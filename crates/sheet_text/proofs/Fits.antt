@@ -10,27 +10,27 @@ use lib.Seq.{sets-eq, length-sets, take-at}
 use Rattle.lists.specs.Entries.{_∈_, each, from}
 use Rattle.lists.proofs.Joined.{length-from, out-from}
 use Rattle.word.specs.Word.{val}
-use Rattle.text.specs.Text.{named}
 use Rattle.rule.specs.Flag.{changes, flagOf}
 use Rattle.rule.specs.Level.{depth}
 use Rattle.rule.specs.Steps.{stepList}
 use Rattle.rule.specs.Numbers.{numberOf}
-use Rattle.rule.proofs.Numbers.{number-low}
 use Rattle.rule.specs.declared.Refusal.{Refusal}
 use Rattle.rule.specs.declared.Refusal.the-variants.{NoRoom}
 use Rattle.rule.specs.declared.Answer.{Answer}
 use Rattle.rule.specs.declared.Answer.the-variants.{Done, Refused}
+use Rattle.rule.proofs.Numbers.{number-low}
 use Rattle.records.specs.Written.{Bytes}
 use Rattle.card.specs.declared.Session.{Session}
 use Rattle.card.specs.declared.Loaded.{Loaded}
-use Rattle.card.specs.Session.{none, cardOf}
+use Rattle.card.specs.Session.{none, cardOf, beforeAt}
 use Rattle.card.specs.Load.{loadOf}
 use Rattle.card.specs.Held.{HasCard}
-use Rattle.card.proofs.Kept.{card-depth, card-steps}
+use Rattle.card.proofs.Kept.{few, card-depth, card-steps}
+use Rattle.card.proofs.Verdicts.{load-holds}
 use Rattle.session.specs.Moves.{restOf, vectorOf}
-use Rattle.session.proofs.Kept.{vector-good}
-use Rattle.history.specs.Told.{beforeAt}
-use Rattle.history.proofs.Ran.{holds, few}
+use Rattle.session.proofs.Kept.{vector-good, vector-rests}
+use Rattle.history.proofs.Ran.{holds}
+use Rattle.text.specs.Text.{named}
 use Rattle.sheet_text.specs.declared.Entry.{Entry}
 use Rattle.sheet_text.specs.declared.Entry.the-variants.{Nothing, Bad, Rest, Vector}
 use Rattle.sheet_text.specs.declared.Stage.{Stage}
@@ -41,7 +41,7 @@ use Rattle.sheet_text.specs.Lines.{blank, lf, depthWord, stepsWord, vect
 use Rattle.sheet_text.specs.Walk.{cardEnd, entryAt, body}
 use Rattle.sheet_text.specs.Pieces.{Portion, refusal, pieceUnless, loadedPiece, cardPiece, entryPiece, pieceAt, pieceOf, Written, written, Standing}
 use Rattle.sheet_text.proofs.Lengths.{byte-short, word-short, line-short}
-use Rattle.sheet_text.proofs.Steps.{bytes-front, load-holds, vector-rests}
+use Rattle.sheet_text.proofs.Steps.{bytes-front}
 use Rattle.sheet_text.proofs.Standing.{Placed, entry-placed, piece-stands}
 
 -- a before value and a flag are bytes

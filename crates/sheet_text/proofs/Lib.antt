@@ -1,3 +1,4 @@
+pub mod Left
 pub mod Lengths
 pub mod Cards
 pub mod Walks

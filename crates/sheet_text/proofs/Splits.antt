@@ -15,10 +15,10 @@ use Rattle.wiring.specs.Layout.{kindOf}
 use Rattle.records.specs.Bytes.{u16At}
 use Rattle.records.specs.Written.{two, recordOf, bodyOf, netBytes, endBytes, cardBytes, Bytes}
 use Rattle.card.specs.Session.{none, sessionOf}
-use Rattle.card.specs.Load.{loadOf}
+use Rattle.card.specs.Load.{loadOf, taken}
 use Rattle.card.specs.Allowed.{Accepted}
 use Rattle.card.proofs.Kept.{session-card}
-use Rattle.card.proofs.Verdicts.{taken, load-takes}
+use Rattle.card.proofs.Verdicts.{load-takes}
 use Rattle.sheet_text.specs.Lines.{firstLine, cardText}
 use Rattle.sheet_text.specs.Walk.{isEnd, cardEnd}
 use Rattle.sheet_text.specs.Sheet.{recordsText, loadedText, sheetOf}

@@ -1,12 +1,12 @@
--- One step: what a piece hands back, by what the operation that it calls answers; and the card that a session keeps. Assumes nothing.
-use mathlib.Core.Path.{_≡_, refl, sym, ap, ap₂, _∙_, subst}
-use mathlib.Core.Bool.{true}
-use mathlib.Core.List.{List, [], _∷_}
-use Prim.Native.Nat.{ℕ, zero, suc, _≤_, _<_}
+-- One step: what a piece hands back, by what the operation that it calls answers. Assumes nothing.
+use mathlib.Core.Path.{_≡_, sym, ap, ap₂, _∙_}
+use mathlib.Core.List.{List}
+use Prim.Native.Nat.{ℕ, _≤_, _<_}
 use native.Mathlib.Omega.{arith}
 use lib.Dec.{lit<}
 use lib.ListN.{length, take}
 use borrow.Author.Tests.{lt-ltb, le-ltb}
+use Rattle.lists.proofs.Places.{part-all}
 use Rattle.rule.specs.declared.Refusal.{Refusal}
 use Rattle.rule.specs.declared.Refusal.the-variants.{NoRoom}
 use Rattle.rule.specs.declared.Answer.{Answer}
@@ -14,15 +14,8 @@ use Rattle.rule.specs.declared.Answer.the-variants.{Done, Refused}
 use Rattle.records.specs.Written.{Bytes}
 use Rattle.card.specs.declared.Session.{Session}
 use Rattle.card.specs.declared.Loaded.{Loaded}
-use Rattle.card.specs.Session.{none, cardOf}
+use Rattle.card.specs.Session.{none}
 use Rattle.card.specs.Load.{loadOf}
-use Rattle.card.specs.Held.{HasCard}
-use Rattle.card.proofs.Kept.{session-holds}
-use Rattle.card.proofs.Verdicts.{Ruling as LoadRuling, refuses as load-refuses, takes as load-takes, ruled as load-ruled}
-use Rattle.session.specs.declared.Moved.{Moved}
-use Rattle.session.specs.Inputs.{given}
-use Rattle.session.specs.Moves.{movedBy, vectorOf, restedBy, restOf}
-use Rattle.session.proofs.Refusals.{Ruling, refuses, takes, rest-ruled, vector-ruled}
 use Rattle.text.specs.Text.{Put}
 use Rattle.sheet_text.specs.declared.Sheet.{Sheet}
 use Rattle.sheet_text.specs.declared.Stage.{Stage}
@@ -66,44 +59,6 @@ unfolding cardPiece
 card-loads sheet file empty end l short en ee el =
     ap₂ (loadedPiece sheet) ee (el ∙ ap₂ (λ s n. loadOf s (take n file)) en ee) ∙ rw (le-ltb 65536 (length file) short)
 
+-- its bytes are bytes
 pub bytes-front : (n : ℕ) (s : List ℕ) → Bytes s → Bytes (take n s)
-bytes-front zero s b i = lit< tt
-bytes-front (suc n) [] b i = b i
-bytes-front (suc n) (x ∷ s) b zero = b zero
-bytes-front (suc n) (x ∷ s) b (suc i) = bytes-front n s (λ j. b (suc j)) i
-
--- a card that load takes is held
-pub load-holds : (old : Session) (s : List ℕ) → Bytes s → (l : Loaded) → l ≡ loadOf old s → (k : ℕ) → l .answer ≡ Done k → HasCard (l .session)
-load-holds old s bytes l e k d =
-    subst (λ x. HasCard (x .session)) (sym e) (go (loadOf old s) (load-ruled old s bytes) (ap (λ x. x .answer) (sym e) ∙ d))
-  where
-    go : (x : Loaded) → LoadRuling old s x → x .answer ≡ Done k → HasCard (x .session)
-    go x (load-refuses r w) q = let z : _≡_ {A = ℕ} 0 1 = cc in absurd (omega arith)
-    go x (load-takes a) q = session-holds (a .card) (a .accepted)
-
--- Rest and a vector keep the card; a vector that is done leaves the session rested
-
-module _ (s : Session) (v : List ℕ) where
-  pub rest-card : cardOf (restOf s v .session) ≡ cardOf s
-  unfolding cardOf restedBy
-  rest-card = go (restOf s v) (rest-ruled s v)
-    where
-      go : (x : Moved) → Ruling (s .loaded) s v (restedBy s (given (s .kinds) v)) x → cardOf (x .session) ≡ cardOf s
-      go x (refuses r w) = refl
-      go x (takes l w) = refl
-
-  pub vector-card : cardOf (vectorOf s v .session) ≡ cardOf s
-  unfolding cardOf movedBy
-  vector-card = go (vectorOf s v) (vector-ruled s v)
-    where
-      go : (x : Moved) → Ruling (s .rested) s v (movedBy s (given (s .kinds) v)) x → cardOf (x .session) ≡ cardOf s
-      go x (refuses r w) = refl
-      go x (takes l w) = refl
-
-  pub vector-rests : (k : ℕ) → vectorOf s v .answer ≡ Done k → vectorOf s v .session .rested ≡ true
-  unfolding movedBy
-  vector-rests k d = go (vectorOf s v) (vector-ruled s v) d
-    where
-      go : (x : Moved) → Ruling (s .rested) s v (movedBy s (given (s .kinds) v)) x → x .answer ≡ Done k → x .session .rested ≡ true
-      go x (refuses r w) q = let z : _≡_ {A = ℕ} 0 1 = cc in absurd (omega arith)
-      go x (takes l w) q = l
+bytes-front n s b = part-all (λ x. x < 256) (lit< tt) s b 0 n

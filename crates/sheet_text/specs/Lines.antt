@@ -1,18 +1,18 @@
 -- The text of the sheet's lines, as bytes; every line ends in LF. Assumes nothing.
 use mathlib.Core.List.{List, [], _∷_, _++_}
 use Prim.Native.Nat.{ℕ, _+_}
+use lib.ListN.{length}
 use Rattle.lists.specs.Entries.{each, from}
 use Rattle.lists.specs.Listed.{listed}
 use Rattle.word.specs.Word.{bit, val}
-use Rattle.text.specs.Text.{digit, numbered, named}
 use Rattle.rule.specs.Level.{depth}
 use Rattle.rule.specs.Numbers.{numberOf}
 use Rattle.rule.specs.Steps.{stepList}
 use Rattle.rule.specs.declared.Refusal.{Refusal}
 use Rattle.card.specs.declared.Session.{Session}
-use Rattle.card.specs.Session.{cardOf}
-use Rattle.history.specs.Told.{wordAt, beforeAt, flagAt}
-use lib.ListN.{length}
+use Rattle.card.specs.Session.{cardOf, wordAt, beforeAt}
+use Rattle.history.specs.Told.{flagAt}
+use Rattle.text.specs.Text.{digit, numbered, named}
 
 -- a blank, LF, and the words of the lines with the blank after each, in ASCII
 

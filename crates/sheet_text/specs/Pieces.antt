@@ -2,7 +2,7 @@
 use mathlib.Core.Path.{_≡_}
 use mathlib.Core.Bool.{Bool, true, false, cond}
 use mathlib.Core.List.{List, [], _++_}
-use Prim.Native.Nat.{ℕ, zero, suc, _+_, _-_, _≤_}
+use Prim.Native.Nat.{ℕ, zero, suc, _+_, _≤_}
 use lib.Dec.{ltb}
 use lib.ListN.{length, take}
 use lib.Seq.{sets}
@@ -43,7 +43,7 @@ moved sheet s next vectors = record { session = s; depth = sheet .depth; at = ne
 abbrev pub opened : Session → ℕ → Sheet
 opened s at = record { session = s; depth = depth (cardOf s); at = at; vectors = 0; stage = Going }
 
--- what a step comes to: the text of a piece, and the sheet after it
+-- what a piece comes to: its text, and the sheet after it
 pub record Portion : Type 0 where
   pub text : List ℕ
   pub after : Sheet
@@ -114,20 +114,11 @@ unfoldable pub afterPieces : ℕ → Sheet → List ℕ → Sheet
 afterPieces zero sheet file = sheet
 afterPieces (suc n) sheet file = afterPieces n (pieceOf sheet file .after) file
 
--- what the steps keep: a session that operations left; once the card is loaded, its depth; and no more vectors than bytes passed
+-- what the pieces keep: a session that operations left; once the card is loaded, its depth; and no more vectors than bytes passed
 pub record Standing (sheet : Sheet) : Type 0 where
   pub good : Good (sheet .session)
   pub deep : sheet .stage ≡ Going → sheet .depth ≡ depth (cardOf (sheet .session))
   pub counted : sheet .stage ≡ Going → sheet .vectors ≤ sheet .at
-
--- a number that falls with each piece until the sheet is over: of so many bytes, so many are left
-abbrev pub leftAt : Stage → ℕ → ℕ → ℕ
-leftAt Fresh all rest = all + 2
-leftAt Going all rest = rest + 1
-leftAt Over all rest = 0
-
-unfoldable pub left : Sheet → List ℕ → ℕ
-left sheet file = leftAt (sheet .stage) (length file) (length file - sheet .at)
 
 -- nothing more is to be written
 abbrev pub isOver : Stage → Bool

@@ -92,7 +92,7 @@ fn taken(session: Session, at: usize, out: &mut [u8; 20480]) -> Piece
     requires { ⌜ HasCard session ⌝ }
     ensures { λ r. ⌜ record { piece = r; page = now (out .exit) } ≡ written (record { text = cardText session; after = opened session at }) (now (out .entry)) ⌝ }
 {
-    let depth = lines::depth_of(session);
+    let depth = card::depth_of(session);
     let length = put_card(out, session, depth);
     Piece {
         sheet: Sheet {

@@ -6,7 +6,6 @@ ghost use lib.ListN.{length, getD};
 ghost use Rattle.lists.specs.Entries.{each, from};
 ghost use Rattle.word.specs.Word.{val};
 ghost use Rattle.rule.specs.Level.{depth as depthOf};
-ghost use Rattle.rule.specs.Steps.{stepList};
 ghost use Rattle.card.specs.Session.{cardOf};
 ghost use Rattle.card.specs.Held.{HasCard};
 ghost use Rattle.session.specs.Good.{Good};
@@ -29,23 +28,6 @@ pub fn put_refused(out: &mut [u8; 20480], why: Refusal) -> usize
     text::put_named(out, 0, b"refused ", wide(rule::number(why)), b'\n')
 }
 
-// The depth of a session's card.
-pub fn depth_of(s: Session) -> usize
-    requires { ⌜ HasCard s ⌝ }
-    ensures { λ r. ⌜ r ≡ depthOf (cardOf s) ⌝ }
-{
-    let levels = wiring::gates_back(&s.counts, &s.places, s.nets);
-    wiring::highest_of(&levels, s.nets) as usize
-}
-
-// The length of its step list.
-fn steps_of(s: Session) -> usize
-    requires { ⌜ HasCard s ⌝ }
-    ensures { λ r. ⌜ r ≡ length (stepList (cardOf s)) ⌝ }
-{
-    wiring::steps_of(&s.sets, &s.order, s.gates)
-}
-
 // The first line: depth and length of the step list.
 pub fn put_card(out: &mut [u8; 20480], s: Session, depth: usize) -> usize
     requires { ⌜ HasCard s ⌝ }
@@ -53,7 +35,7 @@ pub fn put_card(out: &mut [u8; 20480], s: Session, depth: usize) -> usize
     ensures { λ r. ⌜ Put (cardText s) (now (out .entry)) 0 (now (out .exit)) r ⌝ }
 {
     let end = text::put_named(out, 0, b"depth ", depth, b' ');
-    text::put_named(out, end, b"steps ", steps_of(s), b'\n')
+    text::put_named(out, end, b"steps ", card::steps_of(s), b'\n')
 }
 
 // A value, as a digit.

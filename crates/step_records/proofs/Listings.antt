@@ -8,7 +8,8 @@ use native.Mathlib.Omega.{arith}
 use lib.Dec.{leb, lit≤}
 use lib.ListN.{length, getD, replicate, length-replicate}
 use borrow.Author.Tests.{leb-true, leb-false, le-leb, lt-leb}
-use Rattle.rule.specs.Steps.{Step, stepList}
+use Rattle.lists.proofs.Rooms.{fills-none, fills-same, fills-at, fills-past, fills-through}
+use Rattle.rule.specs.Steps.{Step, stepList, stepAt}
 use Rattle.rule.specs.declared.Refusal.{Refusal}
 use Rattle.rule.specs.declared.Refusal.the-variants.{NotReady, NoRoom}
 use Rattle.rule.specs.declared.Answer.the-variants.{Done, Refused}
@@ -16,10 +17,9 @@ use Rattle.card.specs.declared.Session.{Session}
 use Rattle.card.specs.Session.{cardOf}
 use Rattle.card.proofs.Kept.{card-steps}
 use Rattle.session.specs.Good.{Good}
-use Rattle.steps.specs.Listing.{stepAt, Holds, listOf}
-use Rattle.steps.proofs.Rooms.{fills-none, fills-same, fills-at, fills-past, fills-through}
-use Rattle.steps.proofs.Vectors.{held-net, held-time}
-use Rattle.steps.proofs.Answers.{list-12, list-18, list-0}
+use Rattle.listing.specs.Listing.{Holds, listOf}
+use Rattle.listing.proofs.Lists.{held-net, held-time}
+use Rattle.listing.proofs.Answers.{list-12, list-18, list-0}
 use Rattle.step_records.specs.declared.StepRecord.{StepRecord}
 use Rattle.step_records.specs.declared.Listing.{Listing}
 use Rattle.step_records.specs.Records.{blank, recordOf, recordIn, recordsIn, written, refusedListing, listingOf, Answered, recordsOf}

@@ -5,14 +5,13 @@ use Prim.Native.Nat.{ℕ}
 use lib.Dec.{leb}
 use lib.ListN.{length, getD, replicate}
 use Rattle.lists.specs.Listed.{listed, upto}
-use Rattle.rule.specs.Steps.{Step, stepList}
+use Rattle.rule.specs.Steps.{Step, stepList, stepAt}
 use Rattle.rule.specs.declared.Refusal.{Refusal}
 use Rattle.rule.specs.declared.Refusal.the-variants.{NotReady, NoRoom}
 use Rattle.rule.specs.declared.Answer.{Answer}
 use Rattle.rule.specs.declared.Answer.the-variants.{Done, Refused}
 use Rattle.card.specs.declared.Session.{Session}
 use Rattle.card.specs.Session.{cardOf}
-use Rattle.steps.specs.Listing.{stepAt}
 use Rattle.step_records.specs.declared.StepRecord.{StepRecord}
 use Rattle.step_records.specs.declared.Listing.{Listing}
 

@@ -59,7 +59,7 @@ fn list_for(s: Session, room: usize) -> Listing
     }
     let mut nets = [0u16; 4096];
     let mut times = [0u8; 4096];
-    let total = steps::put_list(&mut nets, &mut times, &s.sets, &s.order, s.gates);
+    let total = listing::put_list(&mut nets, &mut times, &s.sets, &s.order, s.gates);
     if room < total {
         return no_records(Refusal::NoRoom);
     }

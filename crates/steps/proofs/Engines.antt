@@ -21,25 +21,27 @@ use Rattle.rule.specs.Chain.{pcSet}
 use Rattle.rule.specs.Rule.{value}
 use Rattle.rule.specs.Run.{made, run}
 use Rattle.rule.specs.Steps.{Step, sameStep, IsStep, Joined, readAt, stepReads, stepFn, GoodOrder, stepList}
+use Rattle.rule.specs.declared.Refusal.the-variants.{NotReady}
 use Rattle.rule.proofs.Runs.{take-in}
 use Rattle.rule.proofs.StepRuns.{reached, left-by-first, left-history}
 use Rattle.rule.proofs.StepLists.{list-good, list-number}
 use Rattle.wiring.specs.declared.Verdict.{Verdict}
 use Rattle.wiring.specs.declared.Verdict.the-variants.{Refused as Faulty, Passed}
+use Rattle.inputs.specs.Inputs.{given, vectorFits}
 use Rattle.card.specs.declared.Session.{Session}
 use Rattle.card.specs.Session.{cardOf, resting}
 use Rattle.card.specs.Held.{HasCard}
 use Rattle.card.proofs.Kept.{card-fits}
 use Rattle.session.specs.Good.{histories, Rested, Good}
-use Rattle.session.specs.Inputs.{given, vectorFits}
 use Rattle.session.specs.Moves.{refusedMove, moving, ends, movedBy, vectorOf}
-use Rattle.rule.specs.declared.Refusal.the-variants.{NotReady}
-use Rattle.steps.specs.Variables.{varsOf, readsIn, fnIn, historyOf, historiesFrom, ran}
-use Rattle.steps.specs.Vector.{startVars, ranAlong, ranSession, stepsVectorOf}
-use Rattle.steps.proofs.Stores.{var-net}
-use Rattle.steps.proofs.Runs.{ran-count}
-use Rattle.steps.proofs.Cards.{step-low}
 use Rattle.session.proofs.Moving.{ends-calm}
+use Rattle.variables.specs.Variables.{varsOf, readsIn, fnIn, historyOf, historiesFrom}
+use Rattle.variables.proofs.Stores.{var-net}
+use Rattle.listing.proofs.Cards.{step-low}
+use Rattle.steps.specs.Runs.{ran}
+use Rattle.steps.specs.Vector.{startVars, ranAlong, ranSession, stepsVectorOf}
+use Rattle.steps.specs.AnyOrder.{AnyOrder}
+use Rattle.steps.proofs.Runs.{ran-count}
 use Rattle.steps.proofs.Starts.{start-ahead}
 use Rattle.steps.proofs.Words.{Kept, set-same, made-same, run-same}
 
@@ -118,14 +120,7 @@ module _ (s : Session) (good : Good s) (rested : s .rested ≡ true) (new : ℕ 
   pub steps-number : Number (Joined c) (ranAlong s new (stepList c) .count)
   steps-number = subst (Number (Joined c)) (sym (run-count s new (stepList c))) (list-number c (card .accepted .free) (card-fits s card .pinned))
 
--- Demand 3 in one: for every good order, about the code's run
-pub record AnyOrder (s : Session) (new : ℕ → Bool) (ks : List Step) : Type 0 where
-  pub each-gives : (xs : List Step) (k : Step) (ys : List Step) → ks ≡ xs ++ k ∷ ys
-      → made sameStep (readsIn (s .counts) (s .places) (s .sets)) (fnIn (s .types)) (varsOf (ranAlong s new xs .words)) k ≡ value (cardOf s) (ends s) new (k .net) (k .time)
-  pub first-have : (m : ℕ) (k : Step) → k ∈ take m ks → bit (getD (ranAlong s new (take m ks) .words) (k .net) 0) (k .time) ≡ value (cardOf s) (ends s) new (k .net) (k .time)
-  pub whole-leaves : ranSession s (ranAlong s new ks) ≡ movedBy s new
-  pub counts : ranAlong s new ks .count ≡ length ks
-
+-- Demand 3 in one: every good order
 pub run-any-order : (s : Session) → Good s → s .rested ≡ true → (new : ℕ → Bool) (ks : List Step) → GoodOrder (cardOf s) ks → AnyOrder s new ks
 run-any-order s good rested new ks order = record {
   each-gives = run-reached s good rested new ks order;

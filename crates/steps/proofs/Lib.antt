@@ -1,11 +1,4 @@
-pub mod Pins
-pub mod Stores
-pub mod Rooms
-pub mod Lists
 pub mod Runs
-pub mod Histories
-pub mod Cards
-pub mod Answers
 pub mod Vectors
 pub mod Starts
 pub mod Words

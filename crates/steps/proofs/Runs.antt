@@ -4,11 +4,18 @@ use mathlib.Core.List.{List, [], _∷_, _++_}
 use Prim.Native.Nat.{ℕ, _+_, _<_}
 use native.Mathlib.Omega.{arith}
 use lib.ListN.{length}
+use Rattle.lists.specs.Entries.{_∈_}
 use Rattle.lists.specs.Listed.{listed}
 use Rattle.lists.proofs.Listed.{listed-none, listed-more, in-listed}
-use Rattle.rule.specs.Steps.{Step}
-use Rattle.session.specs.Fields.{Gates}
-use Rattle.steps.specs.Variables.{stepIn, Ran, ranFrom, ran, Doable}
+use Rattle.rule.specs.Steps.{Step, IsStep}
+use Rattle.fields.specs.Fields.{Gates}
+use Rattle.card.specs.declared.Session.{Session}
+use Rattle.card.specs.Session.{cardOf}
+use Rattle.card.specs.Held.{HasCard}
+use Rattle.session.proofs.Held.{gate-fits}
+use Rattle.variables.specs.Variables.{stepIn}
+use Rattle.listing.proofs.Cards.{step-low}
+use Rattle.steps.specs.Runs.{Ran, ranFrom, ran, Doable}
 
 -- what a run needs of step i
 pub doable-at : (types counts : List ℕ) (f : ℕ → Step) (n i g t : ℕ) → Doable types counts (listed f n) → i < n → g ≡ f i .net → t ≡ f i .time
@@ -47,3 +54,7 @@ module _ (types counts places sets : List ℕ) where
         ∙ ap (λ (r : Ran). after r (f i ∷ [])) e
         ∙ sym (after-append (record { words = words; count = 0 }) (listed f i) (f i ∷ []))
         ∙ ap (after (record { words = words; count = 0 })) (sym (listed-more f i))
+
+-- the steps of a card may be done
+pub steps-doable : (s : Session) (h : HasCard s) (ks : List Step) → ((k : Step) → k ∈ ks → IsStep (cardOf s) k) → Doable (s .types) (s .counts) ks
+steps-doable s h ks all k m = let i = all k m in let l = step-low s h k i in (gate-fits s h (k .net) (i .gated), l .1, l .2)

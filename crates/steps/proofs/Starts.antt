@@ -20,16 +20,16 @@ use Rattle.rule.proofs.Nets.{at-open, at-net, not-open, net-open}
 use Rattle.rule.proofs.Values.{constant-is}
 use Rattle.rule.proofs.StepRuns.{ahead}
 use Rattle.wiring.specs.Layout.{kindOf, kindsOf}
+use Rattle.inputs.specs.Inputs.{isInputKind}
+use Rattle.fields.specs.Fields.{startAt}
 use Rattle.card.specs.declared.Session.{Session}
 use Rattle.card.specs.Session.{cardOf}
 use Rattle.card.specs.Held.{HasCard}
 use Rattle.card.proofs.Kept.{kinds-are, card-fits}
 use Rattle.session.specs.Good.{histories, Rested}
-use Rattle.session.specs.Inputs.{isInputKind}
-use Rattle.session.specs.Fields.{startAt}
 use Rattle.session.specs.Moves.{ends}
 use Rattle.session.proofs.States.{net-past}
-use Rattle.steps.specs.Variables.{heldIn, varsOf}
+use Rattle.variables.specs.Variables.{heldIn, varsOf}
 use Rattle.steps.specs.Vector.{startVars}
 
 module _ (s : Session) (h : HasCard s) (r : Rested s) where

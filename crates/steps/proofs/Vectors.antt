@@ -2,12 +2,11 @@
 use mathlib.Core.Path.{_≡_, refl, sym, ap, _∙_}
 use mathlib.Core.Bool.{Bool, true, false, cond}
 use mathlib.Core.List.{List}
-use Prim.Native.Nat.{ℕ, _^_, _≤_, _<_}
-use native.Mathlib.Omega.{arith}
+use Prim.Native.Nat.{ℕ, _^_, _<_}
 use lib.Dec.{lit<}
-use lib.ListN.{length, getD}
+use lib.ListN.{getD}
 use Rattle.lists.specs.Listed.{listed}
-use Rattle.lists.proofs.Listed.{length-listed, listed-at, listed-all, listed-ext, listed-self}
+use Rattle.lists.proofs.Listed.{length-listed, listed-at, listed-all, listed-ext}
 use Rattle.word.specs.Word.{wordOf}
 use Rattle.word.proofs.Words.{word-lt}
 use Rattle.rule.specs.Steps.{Step, stepList}
@@ -16,37 +15,18 @@ use Rattle.rule.specs.declared.Refusal.the-variants.{NotReady}
 use Rattle.rule.specs.declared.Answer.the-variants.{Done}
 use Rattle.wiring.specs.declared.Verdict.{Verdict}
 use Rattle.wiring.specs.declared.Verdict.the-variants.{Refused as Faulty, Passed}
+use Rattle.inputs.specs.declared.Inputs.{Inputs}
+use Rattle.inputs.specs.Inputs.{isInputKind, given, vectorFits, inputsRead}
+use Rattle.fields.specs.Fields.{startAt}
 use Rattle.card.specs.declared.Session.{Session}
 use Rattle.card.specs.Session.{cardOf, resting}
 use Rattle.card.specs.Held.{HasCard}
 use Rattle.session.specs.declared.Moved.{Moved}
-use Rattle.session.specs.declared.Inputs.{Inputs}
-use Rattle.session.specs.Inputs.{isInputKind, given, vectorFits, inputsRead}
-use Rattle.session.specs.Fields.{startAt}
 use Rattle.session.specs.Moves.{refusedMove, moving, ends}
 use Rattle.session.proofs.Answers.{verdict-is, values-given}
-use Rattle.history.specs.Filled.{filled}
-use Rattle.steps.specs.Variables.{Words, numbered, stepsOf, Ran, ran, historiesFrom}
-use Rattle.steps.specs.Listing.{stepAt, Holds}
+use Rattle.variables.specs.Variables.{Words, historiesFrom}
+use Rattle.steps.specs.Runs.{Ran, ran}
 use Rattle.steps.specs.Vector.{startVars, ranAlong, ranSession, ranMove, stepsVectorOf}
-use Rattle.steps.proofs.Rooms.{fills-at}
-
--- the steps that two arrays name are those that they hold
-module _ {ks : List Step} {nets₀ times₀ nets times : List ℕ} {n : ℕ} (h : Holds ks nets₀ times₀ nets times n) (ln : length nets₀ ≡ 4096) (lt : length times₀ ≡ 4096) (few : n ≤ 4096) where
-  part : (of : Step → ℕ) (old xs : List ℕ) → length old ≡ 4096 → xs ≡ filled (λ i. of (stepAt ks i)) (length ks) old → (e : ℕ) → e < length ks → getD xs e 0 ≡ of (stepAt ks e)
-  part of old xs q z e l = ap (λ x. getD x e 0) z ∙ fills-at 0 (λ i. of (stepAt ks i)) (length ks) e old (omega (arith, h .size)) l
-
-  pub held-net : (e : ℕ) → e < length ks → getD nets e 0 ≡ stepAt ks e .net
-  held-net = part (λ k. k .net) nets₀ nets ln (h .nets-are)
-
-  pub held-time : (e : ℕ) → e < length ks → getD times e 0 ≡ stepAt ks e .time
-  held-time = part (λ k. k .time) times₀ times lt (h .times-are)
-
-  pub held-steps : stepsOf nets times n ≡ ks
-  held-steps =
-      ap (stepsOf nets times) (h .size)
-      ∙ listed-ext (numbered nets times) (stepAt ks) (length ks) (λ e l i. record { net = held-net e l i; time = held-time e l i })
-      ∙ sym (listed-self ks _)
 
 module _ (s : Session) where
   -- The start

@@ -30,9 +30,10 @@ use Rattle.card.specs.Session.{cardOf}
 use Rattle.card.specs.Held.{HasCard}
 use Rattle.card.proofs.Kept.{card-fits, card-pins, card-sets}
 use Rattle.session.proofs.Held.{gate-type}
-use Rattle.steps.specs.Variables.{heldIn, varsOf, wordsOf, readIn, readsIn, fnIn, stepIn, Ran, ranFrom}
-use Rattle.steps.proofs.Stores.{var-net}
-use Rattle.steps.proofs.Cards.{step-low}
+use Rattle.variables.specs.Variables.{heldIn, varsOf, wordsOf, readIn, readsIn, fnIn, stepIn}
+use Rattle.variables.proofs.Stores.{var-net}
+use Rattle.listing.proofs.Cards.{step-low}
+use Rattle.steps.specs.Runs.{Ran, ranFrom}
 
 -- a variable that the words hold, or an open pin's
 abbrev pub Kept : Step → Type 0

@@ -1,3 +1,3 @@
-pub mod Variables
-pub mod Listing
+pub mod Runs
 pub mod Vector
+pub mod AnyOrder

@@ -7,13 +7,14 @@ use Rattle.lists.specs.Listed.{listed}
 use Rattle.rule.specs.Steps.{Step, stepList}
 use Rattle.rule.specs.declared.Refusal.the-variants.{NotReady}
 use Rattle.rule.specs.declared.Answer.the-variants.{Done}
+use Rattle.inputs.specs.Inputs.{given, vectorFits}
+use Rattle.fields.specs.Fields.{startAt}
 use Rattle.card.specs.declared.Session.{Session}
 use Rattle.card.specs.Session.{cardOf, resting}
 use Rattle.session.specs.declared.Moved.{Moved}
-use Rattle.session.specs.Inputs.{given, vectorFits}
-use Rattle.session.specs.Fields.{startAt}
 use Rattle.session.specs.Moves.{refusedMove, moving, ends}
-use Rattle.steps.specs.Variables.{Ran, ran, historiesFrom}
+use Rattle.variables.specs.Variables.{historiesFrom}
+use Rattle.steps.specs.Runs.{Ran, ran}
 
 -- "The variable for it takes the before value ahead of all steps": every variable of a net holds its before value, an input's its new one
 unfoldable pub startVars : Session → (ℕ → Bool) → List ℕ
@@ -27,7 +28,7 @@ ranAlong s new ks = ran (s .types) (s .counts) (s .places) (s .sets) (startVars 
 unfoldable pub ranSession : Session → Ran → Session
 ranSession s r = resting s (s .rested) (listed (ends s) 256) (historiesFrom (s .sets) (r .words))
 
--- and what is handed back of it: "returns the steps done"
+-- and what is handed back of it: the count is that of "the steps done"
 abbrev pub ranMove : Session → Ran → Moved
 ranMove s r = record { answer = Done (r .count); session = ranSession s r }
 

@@ -1,17 +1,17 @@
--- Texts put one after another are one text put; a number's digits and how many they are. Assumes nothing.
+-- Texts put one after another are one text put; a number's digits and how many they are; two texts compared. Assumes nothing.
 use mathlib.Core.Path.{_≡_, refl, sym, ap, _∙_, subst}
-use mathlib.Core.Bool.{cond}
+use mathlib.Core.Bool.{Bool, true, false, cond}
 use mathlib.Core.List.{List, [], _∷_, _++_}
 use Prim.Native.Nat.{ℕ, zero, suc, _+_, _/_, _%_, _^_, _≤_, _<_}
 use native.Mathlib.Omega.{arith}
 use native.Mathlib.Decide.{decLt}
 use native.Mathlib.Nat.{pow-suc}
 use native.Mathlib.Numerals.{add-one}
-use lib.Dec.{ltb}
-use lib.ListN.{length, getD, take, set, length-append}
-use lib.Seq.{sets, sets-eq, take-suc, take-at}
-use borrow.Author.Tests.{lt-ltb, le-ltb}
-use Rattle.text.specs.Text.{digit, digitsIn, decimal, Put}
+use lib.Dec.{eqb, ltb}
+use lib.ListN.{length, getD, take, drop, set, length-append, drop-of-length-le}
+use lib.Seq.{sets, sets-eq, take-suc, take-at, drop-cons}
+use borrow.Author.Tests.{eq-eqb, ne-eqb, lt-ltb, le-ltb}
+use Rattle.text.specs.Text.{digit, digitsIn, decimal, sameText, Put}
 
 -- two texts, the second where the first ends
 pub sets-append : (s t l : List ℕ) (i : ℕ) → sets l i (s ++ t) ≡ sets (sets l i s) (i + length s) t
@@ -79,3 +79,34 @@ decimal-short (suc k) n l = go (decLt n 10) (decimal-short k (n / 10) (omega (ar
     go : Dec (n < 10) → length (decimal (n / 10)) ≤ suc k → length (decimal n) ≤ suc (suc k)
     go (yes p) h = rw (decimal-low n p) (omega arith)
     go (no p) h = omega (arith, length-more n (omega arith))
+
+-- Two texts, compared from a place on
+
+-- one byte more to look at
+pub drop-next : (t : List ℕ) (i : ℕ) → i < length t → drop i t ≡ getD t i 0 ∷ drop (i + 1) t
+drop-next t i l = rw (add-one i) (drop-cons t i 0 l)
+
+pub same-lengths : (a b : List ℕ) → (length a ≡ length b → ⊥) → sameText a b ≡ false
+unfolding sameText
+same-lengths [] [] h = absurd (h refl)
+same-lengths [] (y ∷ ys) h = refl
+same-lengths (x ∷ xs) [] h = refl
+same-lengths (x ∷ xs) (y ∷ ys) h = go (eqb x y) (same-lengths xs ys (λ e. h (ap suc e)))
+  where
+    go : (t : Bool) → sameText xs ys ≡ false → cond t (sameText xs ys) false ≡ false
+    go true e = e
+    go false e = refl
+
+module _ (a b : List ℕ) (i : ℕ) where
+  pub same-end : length a ≤ i → length b ≤ i → sameText (drop i a) (drop i b) ≡ true
+  unfolding sameText
+  same-end l m = rw (drop-of-length-le a l, drop-of-length-le b m)
+
+  module _ (l : i < length a) (m : i < length b) where
+    pub same-stop : (getD a i 0 ≡ getD b i 0 → ⊥) → sameText (drop i a) (drop i b) ≡ false
+    unfolding sameText
+    same-stop h = rw (drop-next a i l, drop-next b i m, ne-eqb (getD a i 0) (getD b i 0) h)
+
+    pub same-on : getD a i 0 ≡ getD b i 0 → sameText (drop i a) (drop i b) ≡ sameText (drop (i + 1) a) (drop (i + 1) b)
+    unfolding sameText
+    same-on h = rw (drop-next a i l, drop-next b i m, eq-eqb (getD a i 0) (getD b i 0) h)

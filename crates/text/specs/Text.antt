@@ -1,9 +1,9 @@
--- Text as bytes: numbers in decimal, and a text put at a place of a page. Assumes nothing.
+-- Text as bytes: numbers in decimal, whether two texts are the same, and a text put at a place of a page. Assumes nothing.
 use mathlib.Core.Path.{_≡_}
-use mathlib.Core.Bool.{cond}
+use mathlib.Core.Bool.{Bool, true, false, cond}
 use mathlib.Core.List.{List, [], _∷_, _++_}
 use Prim.Native.Nat.{ℕ, zero, suc, _+_, _/_, _%_}
-use lib.Dec.{ltb}
+use lib.Dec.{eqb, ltb}
 use lib.ListN.{length}
 use lib.Seq.{sets}
 
@@ -27,6 +27,13 @@ numbered n after = decimal n ++ (after ∷ [])
 -- a word, a number and the byte after it
 abbrev pub named : List ℕ → ℕ → ℕ → List ℕ
 named word n after = word ++ numbered n after
+
+-- two texts are the same
+unfoldable pub sameText : List ℕ → List ℕ → Bool
+sameText [] [] = true
+sameText [] (y ∷ ys) = false
+sameText (x ∷ xs) [] = false
+sameText (x ∷ xs) (y ∷ ys) = cond (eqb x y) (sameText xs ys) false
 
 -- a text stands in a page from a place on, the rest of the page is as it was, and `end` is the place after the text
 pub record Put (text old : List ℕ) (at : ℕ) (new : List ℕ) (end : ℕ) : Type 0 where

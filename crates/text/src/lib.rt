@@ -1,9 +1,9 @@
-// Text, put byte by byte into a lent page: each function puts a text at a place, and hands back the place after it.
+// Text, put byte by byte into a lent page: each function puts a text at a place, and hands back the place after it. And two texts compared.
 ghost use mathlib.Core.Path.{_≡_};
 ghost use mathlib.Core.List.{[], _∷_};
 ghost use Prim.Native.Nat.{_+_, _<_, _≤_};
 ghost use lib.ListN.{length};
-ghost use Rattle.text.specs.Text.{digit as digitByte, decimal, numbered, named, Put};
+ghost use Rattle.text.specs.Text.{digit as digitByte, decimal, numbered, named, sameText, Put};
 
 // One byte.
 pub fn put(out: &mut [u8; 20480], at: usize, b: u8) -> usize
@@ -63,4 +63,21 @@ pub fn put_named(out: &mut [u8; 20480], at: usize, word: &[u8], n: usize, after:
 {
     let end = put_word(out, at, word);
     put_number(out, end, n, after)
+}
+
+// Whether two texts are the same.
+pub fn same(a: &[u8], b: &[u8]) -> bool
+    ensures { λ r. ⌜ r ≡ sameText (now (a .entry)) (now (b .entry)) ⌝ }
+{
+    if a.len() != b.len() {
+        return false;
+    }
+    let mut i: usize = 0;
+    while i < a.len() {
+        if a[i] != b[i] {
+            return false;
+        }
+        i += 1;
+    }
+    true
 }

@@ -1,7 +1,7 @@
 -- The nets by level, then number: one net more, one level more, that there is room for them, and the order at the front of an array.
 -- Assumes nothing.
 use mathlib.Core.Path.{_≡_, refl, sym, ap, _∙_}
-use mathlib.Core.List.{List, [], _∷_, _++_, append-assoc, append-nil, List·Memᴰ·head, List·Memᴰ·tail, List·Memᴰ·eq-of-singleton, List·Memᴰ·append-cases}
+use mathlib.Core.List.{List, [], _∷_, _++_, append-assoc, append-nil, List·Memᴰ·eq-of-singleton, List·Memᴰ·append-cases}
 use mathlib.Core.Logic.{⊎-elim}
 use Prim.Native.Nat.{ℕ, zero, suc, _+_, _-_, _≤_, _<_}
 use native.Mathlib.Nat.{zero-add}
@@ -15,7 +15,7 @@ use borrow.Author.Tests.{eq-eqb, eqb-true}
 use Rattle.lists.specs.Entries.{_∈_, each, when, from, Distinct}
 use Rattle.lists.specs.Listed.{listed}
 use Rattle.lists.proofs.Joined.{from-more, each-append, out-each, out-when, out-from}
-use Rattle.lists.proofs.Order.{sorted-append, sorted-each, sorted-when, sorted-one, sorted-from}
+use Rattle.lists.proofs.Order.{read-all, sorted-append, sorted-each, sorted-when, sorted-one, sorted-from}
 use Rattle.lists.proofs.Number.{distinct-below}
 use Rattle.lists.proofs.Listed.{listed-set, listed-same, listed-at, listed-all, is-listed}
 use Rattle.wiring.specs.declared.Order.{Order}
@@ -28,11 +28,9 @@ Apart x y = ¬ (x ≡ y)
 each-more : (f : ℕ → List ℕ) (a k : ℕ) → each f (from a (suc k)) ≡ each f (from a k) ++ f (a + k)
 each-more f a k = ap (each f) (from-more a k) ∙ each-append f (from a k) ((a + k) ∷ []) ∙ ap (λ l. each f (from a k) ++ l) (append-nil (f (a + k)))
 
--- what holds of the entries and of the default holds of what is read
-entry : (P : ℕ → Type 0) (xs : List ℕ) → ((x : ℕ) → x ∈ xs → P x) → (d : ℕ) → P d → (i : ℕ) → P (getD xs i d)
-entry P [] h d p i = p
-entry P (x ∷ xs) h d p zero = h x (List·Memᴰ·head refl)
-entry P (x ∷ xs) h d p (suc i) = entry P xs (λ y m. h y (List·Memᴰ·tail m)) d p i
+-- what holds of a list's entries and of 0 holds of what is read from its array
+pub padded-all : (P : ℕ → Type 0) (xs : List ℕ) (i : ℕ) → ((x : ℕ) → x ∈ xs → P x) → P 0 → P (getD (padded xs) i 0)
+padded-all P xs i h z = listed-all P (λ k. getD xs k 0) 256 i 0 (read-all P xs i 0 h z) z
 
 module _ (levels : List ℕ) where
   abbrev level : ℕ → ℕ
@@ -114,9 +112,7 @@ module _ (levels : List ℕ) where
 
   -- and each fits its place
   order-below : (n d i : ℕ) → n ≤ 256 → getD (padded (orderOf levels n d)) i 0 < 256
-  order-below n d i few =
-      listed-all (λ x. x < 256) (λ k. getD (orderOf levels n d) k 0) 256 i 0
-      (entry (λ x. x < 256) (orderOf levels n d) (λ g m. omega (arith, out-order n d g m .1)) 0 (omega arith) i) (omega arith)
+  order-below n d i few = padded-all (λ x. x < 256) (orderOf levels n d) i (λ g m. omega (arith, out-order n d g m .1)) (omega arith)
 
 -- A list at the front of an array
 

@@ -27,7 +27,7 @@ pinsFit c = every (λ g. every (pinFits (length c)) (pins c g)) (from 0 (length 
 unfoldable pub mostBack : List Net → ℕ
 mostBack c = most (map (gatesBack c (length c + 1)) (from 0 (length c)))
 
--- "bit t exactly when a chain of t gates ends at the net"; the open pin and what is past the card have {0}
+-- the PC-sets as words: bit t of a net's word says that t is in its set. What is past the card has {0}
 unfoldable pub setWords : List Net → List ℕ
 setWords c = listed (λ n. wordOf 64 (pcSet c n)) 256
 

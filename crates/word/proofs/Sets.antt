@@ -24,6 +24,17 @@ unfolding count
 count-le f zero = omega arith
 count-le f (suc n) = let h = count-le f n in omega (arith, val-lt (f n))
 
+-- a smaller set has a smaller count
+pub count-within : (f g : ℕ → Bool) (n : ℕ) → ((t : ℕ) → t < n → f t ≡ true → g t ≡ true) → count f n ≤ count g n
+unfolding count
+count-within f g zero h = omega arith
+count-within f g (suc n) h = go (f n) refl (g n) refl (count-within f g n (λ t l. h t (le-step l)))
+  where
+    go : (a : Bool) → f n ≡ a → (b : Bool) → g n ≡ b → count f n ≤ count g n → val (f n) + count f n ≤ val (g n) + count g n
+    go false p b q ih = omega (arith, ap val p)
+    go true p true q ih = omega (arith, ap val p, ap val q)
+    go true p false q ih = absurd (false≢true (sym q ∙ h n (lt-suc-self n) p))
+
 -- one number more
 pub count-more : (f : ℕ → Bool) (n a b : ℕ) → a ≡ count f n → b ≡ val (f n) → a + b ≡ count f (n + 1)
 unfolding count

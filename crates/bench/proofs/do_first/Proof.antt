@@ -9,7 +9,7 @@ use Rattle.lists.specs.Listed.{listed}
 use Rattle.card.specs.Held.{HasCard}
 use Rattle.card.proofs.Kept.{card-wires, card-fitting}
 use Rattle.session.specs.Moves.{ends}
-use Rattle.steps.specs.Variables.{Words}
+use Rattle.variables.specs.Variables.{Words}
 use Rattle.steps.specs.Vector.{startVars}
 use Rattle.steps.proofs.Vectors.{start-words, start-is}
 use Rattle.bench.proofs.Runs.{total-few, entry-low, number-net, first-doable, part-done, whole-done}

@@ -4,10 +4,10 @@ use mathlib.Core.Path.{_≡_, ap, _∙_}
 use Prim.Native.Nat.{_-_, _≤_, _<_}
 use native.Mathlib.Omega.{arith}
 use borrow.Author.Needs.{needs}
-use Rattle.history.specs.Filled.{filled}
-use Rattle.history.proofs.Fills.{fill-none, fill-turn, fill-keeps}
+use Rattle.lists.specs.Filled.{filled}
+use Rattle.lists.proofs.Rooms.{filled-none, filled-turn, filled-keeps}
 use Rattle.bench.specs.Bench.{byteIn}
-use Rattle.bench.proofs.Marking.{byte-at}
+use Rattle.bench.proofs.Bytes.{byte-at}
 use Rattle.bench.proofs.put_bytes.Statement.{statement}
 use Rattle.bench.proofs.put_bytes.Tie as tie
 
@@ -24,7 +24,7 @@ placed c =
     omega (arith, c .before .before .before .before .before .before .pre .2 (c .before .before .before .before .loop .e) (omega arith))
 
 loop-holds : tie.Need-loop-holds Inv-loop μ-loop
-loop-holds c = (omega arith, fill-none _ _)
+loop-holds c = (omega arith, filled-none _ _)
 
 mul-wide16 : tie.Need-mul-wide16 Inv-loop μ-loop
 mul-wide16 c = search needs
@@ -57,7 +57,7 @@ slice-write-room : tie.Need-slice-write-room Inv-loop μ-loop
 slice-write-room c =
     let l = c .before .before .before .before .before .before .before .before .loop in
     let s = c .before .before .before .before .before .before .before .before .before .before in
-    omega (arith, fill-keeps (byteIn (s .args .vars .now) (s .args .nets .now) (s .args .times .now) (s .args .done .now)) (s .args .room .now) (l .e) (l .room) (l .inv .1))
+    omega (arith, filled-keeps (byteIn (s .args .vars .now) (s .args .nets .now) (s .args .times .now) (s .args .done .now)) (s .args .room .now) (l .e) (l .room) (l .inv .1))
 
 add-e : tie.Need-add-e Inv-loop μ-loop
 add-e c = search needs
@@ -69,10 +69,10 @@ loop-again : tie.Need-loop-again Inv-loop μ-loop
 loop-again c =
     let l = c .before .before .before .before .before .before .before .before .loop in
     let s = c .before .before .before .before .before .before .before .before .before .before in
-    (omega arith, fill-turn _ (s .args .room .now) (l .e) (c .step-byte .result) (l .room) (l .inv .1) (byte-at (s .args .vars .now) (s .args .nets .now) (s .args .times .now) (s .args .done .now) (l .e) _ _ _ (c .before .before .before .before .before .wide16 .ensures) (c .before .narrow .ensures) (c .step-byte .ensures)) (omega arith))
+    (omega arith, filled-turn _ (s .args .room .now) (l .e) (c .step-byte .result) (l .room) (l .inv .1) (byte-at (s .args .vars .now) (s .args .nets .now) (s .args .times .now) (s .args .done .now) (l .e) _ _ _ (c .before .before .before .before .before .wide16 .ensures) (c .before .narrow .ensures) (c .step-byte .ensures)) (omega arith))
 
 same-length : tie.Need-same-length Inv-loop μ-loop
-same-length c = fill-keeps _ (c .before .before .before .args .room .now) (c .before .loop .e) (c .before .loop .room) (c .before .loop .inv .1)
+same-length c = filled-keeps _ (c .before .before .before .args .room .now) (c .before .loop .e) (c .before .loop .room) (c .before .loop .inv .1)
 
 returns : tie.Need-returns Inv-loop μ-loop
 returns c =

@@ -8,8 +8,8 @@ use Rattle.rule.specs.Steps.{stepList}
 use Rattle.card.specs.Session.{cardOf}
 use Rattle.card.specs.Held.{HasCard}
 use Rattle.card.proofs.Kept.{card-wires, card-fitting}
-use Rattle.steps.proofs.Cards.{list-asked, list-total, list-few}
-use Rattle.bench.specs.Orders.{orderJudged}
+use Rattle.orders.specs.Orders.{orderJudged}
+use Rattle.listing.proofs.Cards.{list-asked, list-total, list-few}
 use Rattle.bench.proofs.Answers.{list-entry, verdict-is, passed-taken, order-faulty, order-many, order-short, order-done}
 use Rattle.bench.proofs.run_bench.Statement.{statement}
 use Rattle.bench.proofs.run_bench.Tie as tie

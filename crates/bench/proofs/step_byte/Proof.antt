@@ -4,11 +4,13 @@ use mathlib.Core.Bool.{true, false}
 use borrow.Author.Needs.{needs}
 use borrow.Author.Tests.{not-true, not-false}
 use Rattle.word.specs.Word.{bit}
-use Rattle.bench.proofs.Marking.{byte-not, byte-done}
+use Rattle.bench.specs.Bench.{notDone}
+use Rattle.bench.proofs.Bytes.{byte-not, byte-done}
 use Rattle.bench.proofs.step_byte.Statement.{statement}
 use Rattle.bench.proofs.step_byte.Tie as tie
 
 returns : tie.Need-returns
+unfolding notDone
 returns c = let a = c .before .args in byte-not (a .done) (bit (a .word) (a .t)) (not-true _ (c .if1 .taken))
 
 has-requires : tie.Need-has-requires

@@ -7,7 +7,8 @@ use Prim.Native.Nat.{_≤_}
 use native.Mathlib.Omega.{arith}
 use borrow.Author.Tests.{not-true, not-false}
 use borrow.Author.Needs.{needs}
-use Rattle.history.proofs.Ran.{holds, few}
+use Rattle.card.proofs.Kept.{few}
+use Rattle.history.proofs.Ran.{holds}
 use Rattle.history.proofs.Histories.{gives-12, gives-18, told}
 use Rattle.history.proofs.history.Statement.{statement}
 use Rattle.history.proofs.history.Tie as tie

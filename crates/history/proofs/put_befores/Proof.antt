@@ -5,9 +5,9 @@ use Prim.Native.Nat.{ℕ, _-_, _≤_}
 use native.Mathlib.Omega.{arith}
 use lib.ListN.{getD}
 use borrow.Author.Needs.{needs}
+use Rattle.lists.specs.Filled.{filled}
+use Rattle.lists.proofs.Rooms.{filled-none, filled-keeps, filled-turn}
 use Rattle.word.specs.Word.{val}
-use Rattle.history.specs.Filled.{filled}
-use Rattle.history.proofs.Fills.{fill-none, fill-keeps, fill-turn}
 use Rattle.history.proofs.put_befores.Statement.{statement}
 use Rattle.history.proofs.put_befores.Tie as tie
 
@@ -18,7 +18,7 @@ abbrev μ-loop : tie.MeasureT-loop
 μ-loop before n room₀ i₀ room i = n - i
 
 loop-holds : tie.Need-loop-holds Inv-loop μ-loop
-loop-holds c = (omega arith, fill-none _ (c .before .args .room .now))
+loop-holds c = (omega arith, filled-none _ (c .before .args .room .now))
 
 element-copy-out-byte-of : tie.Need-element-copy-out-byte-of Inv-loop μ-loop
 element-copy-out-byte-of c = search needs
@@ -30,7 +30,7 @@ slice-write-room : tie.Need-slice-write-room Inv-loop μ-loop
 slice-write-room c =
     let s = c .before .before .before .before .before in
     let l = c .before .before .before .loop in
-    omega (arith, s .pre, fill-keeps _ (s .args .room .now) (l .i) (l .room) (l .inv .1))
+    omega (arith, s .pre, filled-keeps _ (s .args .room .now) (l .i) (l .room) (l .inv .1))
 
 add-i : tie.Need-add-i Inv-loop μ-loop
 add-i c = search needs
@@ -42,10 +42,10 @@ loop-again : tie.Need-loop-again Inv-loop μ-loop
 loop-again c =
     let s = c .before .before .before .before .before in
     let l = c .before .before .before .loop in
-    (omega arith, fill-turn _ (s .args .room .now) (l .i) _ (l .room) (l .inv .1) (c .byte-of .ensures) (omega (arith, s .pre)))
+    (omega arith, filled-turn _ (s .args .room .now) (l .i) _ (l .room) (l .inv .1) (c .byte-of .ensures) (omega (arith, s .pre)))
 
 same-length : tie.Need-same-length Inv-loop μ-loop
-same-length c = fill-keeps _ (c .before .before .before .args .room .now) (c .before .loop .i) (c .before .loop .room) (c .before .loop .inv .1)
+same-length c = filled-keeps _ (c .before .before .before .args .room .now) (c .before .loop .i) (c .before .loop .room) (c .before .loop .inv .1)
 
 returns : tie.Need-returns Inv-loop μ-loop
 returns c =

@@ -7,9 +7,9 @@ use native.Mathlib.Omega.{arith}
 use borrow.Author.Tests.{not-true, not-false}
 use borrow.Author.Needs.{needs}
 use Rattle.card.specs.Session.{cardOf}
-use Rattle.card.proofs.Kept.{card-pins}
+use Rattle.card.proofs.Kept.{few, card-pins}
 use Rattle.history.specs.Traced.{movedAt}
-use Rattle.history.proofs.Ran.{holds, few, session-caused}
+use Rattle.history.proofs.Ran.{holds, session-caused}
 use Rattle.history.proofs.Traces.{gives-12, gives-13, gives-14, gives-18, changed-then, late-then, traced}
 use Rattle.history.proofs.trace.Statement.{statement}
 use Rattle.history.proofs.trace.Tie as tie

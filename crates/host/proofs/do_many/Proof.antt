@@ -4,8 +4,9 @@ use native.Mathlib.Nat.{le-of-eq, le-div-iff-mul-le}
 use native.Mathlib.Omega.{arith}
 use lib.ListN.{length}
 use Rattle.card.proofs.Kept.{nets-are, inputs-some}
-use Rattle.host.specs.Many.{manyDone}
-use Rattle.host.proofs.Many.{many-asks, done-refused, done-all}
+use Rattle.many.proofs.Many.{many-asks}
+use Rattle.host.specs.Vectors.{manyDone}
+use Rattle.host.proofs.Vectors.{done-refused, done-all}
 use borrow.Author.Needs.{needs}
 use Rattle.host.proofs.do_many.Statement.{statement}
 use Rattle.host.proofs.do_many.Tie as tie

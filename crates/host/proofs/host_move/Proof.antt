@@ -5,8 +5,8 @@ use native.Mathlib.Omega.{arith}
 use lib.ListN.{length}
 use borrow.Author.Tests.{not-true, not-false}
 use Rattle.session.specs.Good.{Good}
+use Rattle.making.proofs.Making.{again-good}
 use Rattle.host.specs.Calls.{operated, leftBy}
-use Rattle.host.proofs.Making.{again-good}
 use Rattle.host.proofs.Answering.{move-short, move-broken, move-left}
 use borrow.Author.Needs.{needs}
 use Rattle.host.proofs.host_move.Statement.{statement}

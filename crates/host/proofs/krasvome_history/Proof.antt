@@ -6,7 +6,7 @@ use lib.ListN.{length}
 use borrow.Author.Tests.{not-true, not-false}
 use Rattle.session.specs.Good.{Good}
 use Rattle.history.specs.Told.{historyOf}
-use Rattle.host.proofs.Making.{again-good}
+use Rattle.making.proofs.Making.{again-good}
 use Rattle.host.proofs.Answering.{history-short, history-broken, history-shown}
 use borrow.Author.Needs.{needs}
 use Rattle.host.proofs.krasvome_history.Statement.{statement}

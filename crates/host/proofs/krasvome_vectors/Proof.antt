@@ -5,9 +5,10 @@ use native.Mathlib.Omega.{arith}
 use lib.ListN.{length}
 use borrow.Author.Tests.{not-true, not-false}
 use Rattle.session.specs.Good.{Good}
-use Rattle.host.specs.Many.{manyJudged, manyDone}
-use Rattle.host.proofs.Making.{again-good}
-use Rattle.host.proofs.Many.{vectors-short, vectors-broken, vectors-done}
+use Rattle.making.proofs.Making.{again-good}
+use Rattle.many.specs.Many.{manyJudged}
+use Rattle.host.specs.Vectors.{manyDone}
+use Rattle.host.proofs.Vectors.{vectors-short, vectors-broken, vectors-done}
 use borrow.Author.Needs.{needs}
 use Rattle.host.proofs.krasvome_vectors.Statement.{statement}
 use Rattle.host.proofs.krasvome_vectors.Tie as tie

@@ -49,13 +49,13 @@ use denote.Triple.Table.{entered, cited}
 use denote.Triple.Clauses.{ensured, lasts}
 use denote.Triple.Walked.{says, needs, Stays, stay-none, stay-slice, walkOf, goes-none, goes-slice, Walks, ends-at, walked, walk-meets}
 use denote.Exit.{yes}
+use Rattle.lists.proofs.Rooms.{fills-none, fills-length, fills-next}
+use Rattle.rule.proofs.Answer as An
+use Rattle.rule.proofs.Answer.Laws as An′
 use Rattle.card.specs.declared.Session.{Session}
 use Rattle.card.proofs.Session as Se
 use Rattle.card.proofs.Session.Laws as Se′
-use Rattle.rule.proofs.Answer as An
-use Rattle.rule.proofs.Answer.Laws as An′
 use Rattle.session.specs.Good.{Good}
-use Rattle.steps.proofs.Rooms.{fills-none, fills-length, fills-next}
 use Rattle.step_records.specs.Records.{blank, recordsIn, listingOf, recordsOf}
 use Rattle.step_records.specs.declared.StepRecord.{StepRecord}
 use Rattle.step_records.specs.declared.Listing.{Listing}

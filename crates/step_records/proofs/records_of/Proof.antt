@@ -4,7 +4,7 @@ use mathlib.Core.Path.{_≡_}
 use Prim.Native.Nat.{_-_, _≤_}
 use native.Mathlib.Omega.{arith}
 use lib.ListN.{replicate, length-replicate}
-use Rattle.steps.proofs.Rooms.{fills-none, fills-next}
+use Rattle.lists.proofs.Rooms.{fills-none, fills-next}
 use Rattle.step_records.specs.Records.{blank, recordIn, recordsIn}
 use borrow.Author.Needs.{needs}
 use Rattle.step_records.proofs.records_of.Statement.{statement}

@@ -4,8 +4,10 @@ use mathlib.Core.Path.{_≡_, ap, _∙_}
 use Prim.Native.Nat.{_-_, _≤_, _<_}
 use native.Mathlib.Omega.{arith}
 use lib.ListN.{getD}
-use Rattle.steps.specs.Variables.{Words, numbered, ordered, ran}
-use Rattle.steps.proofs.Stores.{step-words}
+use Rattle.variables.specs.Variables.{Words}
+use Rattle.variables.proofs.Stores.{step-words}
+use Rattle.listing.specs.Listing.{numbered}
+use Rattle.steps.specs.Runs.{ordered, ran}
 use Rattle.steps.proofs.Runs.{doable-at, ran-none, ran-more}
 use borrow.Author.Needs.{needs}
 use Rattle.steps.proofs.run_order.Statement.{statement}

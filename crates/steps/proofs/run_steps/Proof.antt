@@ -10,10 +10,14 @@ use Rattle.card.specs.Session.{cardOf}
 use Rattle.card.specs.Held.{HasCard}
 use Rattle.card.proofs.Kept.{card-wires, card-fitting}
 use Rattle.session.specs.Moves.{ends}
-use Rattle.steps.specs.Variables.{Words, Doable, stepsOf}
+use Rattle.variables.specs.Variables.{Words}
+use Rattle.listing.specs.Listing.{stepsOf}
+use Rattle.listing.proofs.Cards.{list-asked, list-held, list-few}
+use Rattle.listing.proofs.Lists.{held-steps}
+use Rattle.steps.specs.Runs.{Doable}
 use Rattle.steps.specs.Vector.{startVars}
-use Rattle.steps.proofs.Cards.{list-asked, list-held, list-few, steps-doable}
-use Rattle.steps.proofs.Vectors.{held-steps, start-words, start-is, run-made}
+use Rattle.steps.proofs.Runs.{steps-doable}
+use Rattle.steps.proofs.Vectors.{start-words, start-is, run-made}
 use borrow.Author.Needs.{needs}
 use Rattle.steps.proofs.run_steps.Statement.{statement}
 use Rattle.steps.proofs.run_steps.Tie as tie

@@ -1,7 +1,8 @@
 -- A line of two words: `withOne`, at the names that it was compared with. Assumes nothing.
 use mathlib.Core.Path.{_≡_, sym, ap, _∙_}
 use mathlib.Core.Bool.{false}
-use Rattle.drill_text.specs.Lines.{sameText, load, rest, vector, steps, records, net, recordsOf, netOf, withOne}
+use Rattle.text.specs.Text.{sameText}
+use Rattle.drill_text.specs.Lines.{load, rest, vector, steps, records, net, recordsOf, netOf, withOne}
 use borrow.Author.Needs.{needs}
 use Rattle.drill_text.proofs.lines.with_one.Statement.{statement}
 use Rattle.drill_text.proofs.lines.with_one.Tie as tie

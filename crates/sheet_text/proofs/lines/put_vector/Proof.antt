@@ -2,10 +2,10 @@
 use mathlib.Core.Path.{ap}
 use mathlib.Core.List.{_++_}
 use native.Mathlib.Omega.{arith}
+use Rattle.card.proofs.Kept.{few, card-depth}
+use Rattle.history.proofs.Ran.{holds}
 use Rattle.text.specs.Text.{named}
 use Rattle.text.proofs.Texts.{put-same, put-then}
-use Rattle.card.proofs.Kept.{card-depth}
-use Rattle.history.proofs.Ran.{holds, few}
 use Rattle.sheet_text.specs.Lines.{lf, vectorWord, vectorText}
 use Rattle.sheet_text.proofs.Lengths.{word-short}
 use Rattle.sheet_text.proofs.Cards.{lines-are}

@@ -1,0 +1,181 @@
+-- Fields along an order of the gates: a gate's word of its pins' words, and one gate more. Assumes nothing.
+use mathlib.Core.Path.{_≡_, refl, sym, ap, ap₂, _∙_}
+use mathlib.Core.Bool.{Bool, false, not, cond}
+use mathlib.Core.List.{List, map}
+use Prim.Native.Nat.{ℕ, zero, suc, _+_, _^_, _*_, _≤_, _<_}
+use native.Mathlib.Omega.{arith}
+use native.Mathlib.Decide.{ℕ-discrete}
+use native.Mathlib.Numerals.{add-one}
+use lib.Dec.{eqb}
+use lib.ListN.{length, getD, set, length-map, length-set}
+use lib.Seq.{getD-set-same, getD-set-other}
+use borrow.Author.Tests.{eq-eqb, ne-eqb, eqb-true}
+use Rattle.lists.specs.Listed.{listed}
+use Rattle.lists.proofs.Listed.{listed-none, listed-at, out-listed, is-listed, map-listed}
+use Rattle.word.specs.Word.{bit, isOne, differ, wordOf, movedUp}
+use Rattle.word.proofs.Words.{is-word}
+use Rattle.gate.specs.Gate.{inverts, gate as gateFn}
+use Rattle.gate.specs.Pins.{byPins, ofPins}
+use Rattle.gate.proofs.Pins.{gate-by-pins}
+use Rattle.rule.specs.Net.{openValue}
+use Rattle.rule.specs.Run.{run}
+use Rattle.rule.proofs.Nets.{at-open, at-net, not-open}
+use Rattle.rule.proofs.Runs.{run-leaves-others}
+use Rattle.wiring.specs.Layout.{pinsAt}
+use Rattle.wiring.specs.Wires.{Fitting}
+use Rattle.wiring.proofs.Passes.{pass-more}
+use Rattle.inputs.specs.Inputs.{isInputKind, rank, inputNets, given}
+use Rattle.inputs.proofs.Vectors.{not-zero, rank-below, given-input}
+use Rattle.inputs.proofs.Nets.{Ranked, net-at, net-there}
+use Rattle.fields.specs.Fields.{fieldOf, fieldAt, pinWord, topsOf, passed, netsPut, constantAt}
+
+-- the value at time t of the i-th pin of a gate; what the pins come to, pin by pin
+abbrev pub pin : List ℕ → List ℕ → ℕ → ℕ → ℕ → Bool
+pin words places g t i = bit (pinWord words (getD places (g * 8 + i) 0)) t
+
+pub gathered : (words counts places : List ℕ) (g ty t known j : ℕ) → j ≡ getD counts g 0 → bit known t ≡ byPins ty (listed (pin words places g t) j)
+    → bit known t ≡ byPins ty (map (λ w. bit w t) (map (pinWord words) (pinsAt counts places g)))
+gathered words counts places g ty t known j e h =
+    let place : ℕ → ℕ = λ i. getD places (g * 8 + i) 0 in
+    let count = getD counts g 0 in
+    h ∙ ap (byPins ty)
+    (ap (listed (pin words places g t)) e ∙ sym (ap (map (λ w. bit w t)) (map-listed (pinWord words) place count) ∙ map-listed (λ w. bit w t) (λ i. pinWord words (place i)) count))
+
+-- what a gate gives of what its pins come to, moved up by one, with the before value in bit 0, is its field
+pub field-made : (low i : Bool) (ty all r : ℕ) (ws : List ℕ) → (ty < 2 → length ws ≡ 1) → i ≡ inverts ty → ((t : ℕ) → bit all t ≡ byPins ty (map (λ w. bit w t) ws))
+    → r < 2 ^ 64 → ((t : ℕ) → t < 64 → bit r t ≡ movedUp low (λ u. differ (bit all u) i) t) → r ≡ fieldOf low ty ws
+unfolding fieldOf ofPins
+field-made low i ty all r ws one hi ha l h = is-word 64 (movedUp low (λ t. gateFn ty (map (λ w. bit w t) ws))) r l (λ t b. h t b ∙ at t b)
+  where
+    at : (t : ℕ) → t < 64 → movedUp low (λ u. differ (bit all u) i) t ≡ movedUp low (λ u. gateFn ty (map (λ w. bit w u) ws)) t
+    at zero b = refl
+    at (suc u) b = ap₂ differ (ha u) hi ∙ gate-by-pins ty (map (λ w. bit w u) ws) (λ k. length-map ws (λ w. bit w u) ∙ one k)
+
+-- A pass
+
+pub passed-none : (before : List Bool) (types counts places words : List ℕ) (f : ℕ → ℕ) → length words ≡ 256 → words ≡ passed before types counts places words (listed f 0)
+unfolding passed run
+passed-none before types counts places words f e =
+    rw (listed-none f)
+    (is-listed (pinWord words) 256 0 words e (λ i l. sym (at-net (wordOf 64 (λ t. openValue)) (λ m. getD words m 0) i (not-open i (omega arith)))))
+
+-- gate g, the i-th of an order, with the field r that it makes of its pins' words
+pub passed-more : (before : List Bool) (types counts places start : List ℕ) (n : ℕ) → n ≤ 256 → Fitting counts places n → (f : ℕ → ℕ) (i : ℕ) → ((j : ℕ) → j ≤ i → f j < 256)
+    → (g r : ℕ) (words : List ℕ) → g ≡ f i → words ≡ passed before types counts places start (listed f i)
+    → r ≡ fieldAt before types g (map (pinWord words) (pinsAt counts places g)) → set words g r ≡ passed before types counts places start (listed f (i + 1))
+unfolding passed
+passed-more before types counts places start n few fitting f i below g r words a b e =
+    pass-more (pinsAt counts places) (fieldAt before types) (pinWord start) (wordOf 64 (λ t. openValue)) (at-open (wordOf 64 (λ t. openValue)) (λ m. getD start m 0))
+    n few fitting f i below g r words a b e
+
+-- a gate that is still to come has its own word
+pub own-top : (before : List Bool) (types counts places start : List ℕ) (f : ℕ → ℕ) (i g : ℕ) (words : List ℕ) → g < 256 → ((j : ℕ) → j < i → ¬ (f j ≡ g))
+    → words ≡ passed before types counts places start (listed f i) → bit (getD words g 0) 63 ≡ getD (topsOf start) g false
+unfolding passed
+own-top before types counts places start f i g words l apart e =
+    ap (λ ws. bit (getD ws g 0) 63) e
+    ∙ ap (λ w. bit w 63)
+    (listed-at (run eqb (pinsAt counts places) (fieldAt before types) (pinWord start) (listed f i)) 256 g 0 l
+    ∙ run-leaves-others eqb (pinsAt counts places) eqb-true (λ k. eq-eqb k k refl) (fieldAt before types) (pinWord start) (listed f i) g
+    (λ k m. let o = out-listed f i k m in ne-eqb g k (λ q. apart (o .0) (o .1) (sym (o .2) ∙ sym q)))
+    ∙ at-net (wordOf 64 (λ t. openValue)) (λ m. getD start m 0) g (not-open g (omega arith)))
+    ∙ sym (listed-at (λ n. bit (getD start n 0) 63) 256 g false l)
+
+-- Ahead of a pass
+
+module _ (kind r : ℕ) (value before : Bool) where
+  pub start-input : kind ≡ 1 → r < 2 ^ 64 → ((t : ℕ) → t < 64 → bit r t ≡ value) → r ≡ wordOf 64 (λ t. cond (isInputKind kind) value before)
+  start-input e l h = rw (eq-eqb kind 1 e) (is-word 64 (λ t. value) r l h)
+
+  pub start-other : ¬ (kind ≡ 1) → r < 2 ^ 64 → ((t : ℕ) → t < 64 → bit r t ≡ before) → r ≡ wordOf 64 (λ t. cond (isInputKind kind) value before)
+  start-other e l h = rw (ne-eqb kind 1 e) (is-word 64 (λ t. before) r l h)
+
+-- a constant's value
+pub constant-value : (kind ty : ℕ) → kind ≡ 2 → not (eqb ty 0) ≡ constantAt kind ty
+constant-value kind ty e = rw (eq-eqb kind 2 e) (not-zero ty)
+
+pub no-constant : (kind ty : ℕ) → ¬ (kind ≡ 2) → false ≡ constantAt kind ty
+no-constant kind ty e = rw (ne-eqb kind 2 e)
+
+-- Inputs' words
+
+pub put-none : (nets v words : List ℕ) → words ≡ netsPut nets v 0 words
+unfolding netsPut
+put-none nets v words = refl
+
+put-next : (nets v words : List ℕ) (j : ℕ) → set (netsPut nets v j words) (getD nets j 0) (wordOf 64 (λ t. isOne (getD v j 0))) ≡ netsPut nets v (suc j) words
+unfolding netsPut
+put-next nets v words j = refl
+
+-- one byte more
+pub put-more : (nets v words now : List ℕ) (j m r : ℕ) → m ≡ getD nets j 0 → r < 2 ^ 64 → ((t : ℕ) → t < 64 → bit r t ≡ not (eqb (getD v j 0) 0)) → now ≡ netsPut nets v j words
+    → set now m r ≡ netsPut nets v (j + 1) words
+put-more nets v words now j m r e l h q =
+    let w : r ≡ wordOf 64 (λ t. isOne (getD v j 0)) = is-word 64 (λ t. isOne (getD v j 0)) r l (λ t b. h t b ∙ not-zero (getD v j 0)) in
+    (λ i. set (q i) (e i) (w i)) ∙ put-next nets v words j ∙ ap (λ k. netsPut nets v k words) (sym (add-one j))
+
+pub length-put : (nets v : List ℕ) (j : ℕ) (words : List ℕ) → length (netsPut nets v j words) ≡ length words
+unfolding netsPut
+length-put nets v zero words = refl
+length-put nets v (suc j) words = length-set (netsPut nets v j words) (getD nets j 0) _ ∙ length-put nets v j words
+
+-- words in which the inputs have the values that a vector gives them, at every time
+unfoldable pub inputsPut : List ℕ → List ℕ → List ℕ → List ℕ
+inputsPut kinds v words = listed (λ n. cond (isInputKind (getD kinds n 0)) (wordOf 64 (λ t. given kinds v n)) (getD words n 0)) 256
+
+module _ (kinds v words : List ℕ) (long : length words ≡ 256) where
+  abbrev nets : List ℕ
+  nets = inputNets kinds 256
+
+  abbrev after : ℕ → List ℕ
+  after j = netsPut nets v j words
+
+  room : (j m : ℕ) → m < 256 → m < length (after j)
+  room j m l = omega (arith, l, length-put nets v j words, long)
+
+  -- an input whose byte was taken
+  put-in : (j m : ℕ) → j ≤ rank kinds 256 → m < 256 → getD kinds m 0 ≡ 1 → rank kinds m < j → getD (after j) m 0 ≡ wordOf 64 (λ t. isOne (getD v (rank kinds m) 0))
+  put-in zero m f l e b = absurd (omega arith)
+  put-in (suc j) m f l e b =
+      let before : rank kinds m < j → getD (after j) m 0 ≡ wordOf 64 (λ t. isOne (getD v (rank kinds m) 0)) = λ x. put-in j m (omega arith) l e x in
+      ap (λ xs. getD xs m 0) (sym (put-next nets v words j)) ∙ go (ℕ-discrete m (getD nets j 0)) before
+    where
+      here : Ranked kinds 256 j (getD nets j 0)
+      here = net-there kinds 256 j (omega arith) (omega arith)
+
+      go : Dec (m ≡ getD nets j 0) → (rank kinds m < j → getD (after j) m 0 ≡ wordOf 64 (λ t. isOne (getD v (rank kinds m) 0)))
+          → getD (set (after j) (getD nets j 0) (wordOf 64 (λ t. isOne (getD v j 0)))) m 0 ≡ wordOf 64 (λ t. isOne (getD v (rank kinds m) 0))
+      go (yes q) before =
+          let same : rank kinds m ≡ j = ap (rank kinds) q ∙ here .2 in
+          ap (λ k. getD (set (after j) (getD nets j 0) (wordOf 64 (λ t. isOne (getD v j 0)))) k 0) q
+          ∙ getD-set-same (after j) (getD nets j 0) _ 0 (room j (getD nets j 0) (here .0))
+          ∙ ap (λ k. wordOf 64 (λ t. isOne (getD v k 0))) (sym same)
+      go (no q) before =
+          let apart : ¬ (rank kinds m ≡ j) = λ s. q (sym (net-at kinds 256 m (omega arith) l e) ∙ ap (λ k. getD nets k 0) s) in
+          getD-set-other (after j) (getD nets j 0) m _ 0 q ∙ before (omega (arith, b, apart))
+
+  -- all others
+  put-out : (j m : ℕ) → j ≤ rank kinds 256 → m < 256 → ¬ (getD kinds m 0 ≡ 1) → getD (after j) m 0 ≡ getD words m 0
+  put-out zero m f l e = ap (λ xs. getD xs m 0) (sym (put-none nets v words))
+  put-out (suc j) m f l e =
+      let here = net-there kinds 256 j (omega arith) (omega arith) in
+      ap (λ xs. getD xs m 0) (sym (put-next nets v words j))
+      ∙ getD-set-other (after j) (getD nets j 0) m _ 0 (λ q. e (ap (λ k. getD kinds k 0) q ∙ here .1))
+      ∙ put-out j m (omega arith) l e
+
+  -- with all bytes of a vector, all inputs have their values and nothing else moves
+  pub nets-put : length v ≡ rank kinds 256 → netsPut (inputNets kinds 256) v (length v) words ≡ inputsPut kinds v words
+  unfolding inputsPut
+  nets-put size =
+      is-listed (λ n. cond (isInputKind (getD kinds n 0)) (wordOf 64 (λ t. given kinds v n)) (getD words n 0)) 256 0 (after (length v)) (length-put nets v (length v) words ∙ long)
+      (λ n l. at n l (ℕ-discrete (getD kinds n 0) 1))
+    where
+      given-is : (n : ℕ) → getD kinds n 0 ≡ 1 → isOne (getD v (rank kinds n) 0) ≡ given kinds v n
+      given-is n e = sym (not-zero (getD v (rank kinds n) 0)) ∙ given-input kinds v n (rank kinds n) e refl
+
+      at : (n : ℕ) → n < 256 → Dec (getD kinds n 0 ≡ 1)
+          → getD (after (length v)) n 0 ≡ cond (isInputKind (getD kinds n 0)) (wordOf 64 (λ t. given kinds v n)) (getD words n 0)
+      at n l (yes e) =
+          rw (eq-eqb (getD kinds n 0) 1 e)
+          (put-in (length v) n (omega (arith, size)) l e (omega (arith, size, rank-below kinds n 256 l e)) ∙ ap (λ b. wordOf 64 (λ t. b)) (given-is n e))
+      at n l (no e) = rw (ne-eqb (getD kinds n 0) 1 e) (put-out (length v) n (omega (arith, size)) l e)

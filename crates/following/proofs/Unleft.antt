@@ -1,0 +1,291 @@
+-- Bytes that no call left answer 12: bytes from which a session is made again are exactly the bytes that some calls left of a slice of zeros. Assumes nothing.
+use mathlib.Core.Path.{_≡_, refl, sym, ap, subst, _∙_}
+use mathlib.Core.Bool.{true, false}
+use mathlib.Core.List.{List, [], _∷_, List·Memᴰ·not-nil, List·Memᴰ·cases-cons}
+use mathlib.Core.Logic.{_⊎_, inl, inr}
+use Prim.Native.Nat.{ℕ, _+_, _-_, _/_, _%_, _≤_, _<_}
+use native.Mathlib.Omega.{arith}
+use native.Mathlib.Decide.{decLt}
+use lib.Dec.{lit<}
+use lib.ListN.{length, getD, drop, length-take, List·getD-eq-default}
+use lib.Seq.{ext-getD, getD-take, getD-drop}
+use Rattle.lists.specs.Entries.{_∈_}
+use Rattle.lists.specs.Places.{part, clear, area}
+use Rattle.lists.proofs.Bools.{and-both, yes-or-no}
+use Rattle.lists.proofs.Places.{clear-at, length-area, area-in, area-out, part-listed}
+use Rattle.lists.proofs.Listed.{length-listed}
+use Rattle.rule.specs.Net.{Net}
+use Rattle.rule.specs.declared.Answer.the-variants.{Done}
+use Rattle.inputs.specs.Allowed.{Vector}
+use Rattle.records.specs.Bytes.{u16At}
+use Rattle.records.specs.Written.{Bytes}
+use Rattle.card.specs.declared.Session.{Session}
+use Rattle.card.specs.Session.{none, sessionOf}
+use Rattle.keeping.specs.Kept.{lastRoom, keptCard, keptRest, keptVector}
+use Rattle.keeping.proofs.Bytes.{area-bytes, part-bytes, room-at, zero-byte}
+use Rattle.making.specs.Made.{fitting, madeAgain}
+use Rattle.host.specs.declared.Move.{Move}
+use Rattle.host.specs.declared.Move.the-variants.{Load, Rest, Vector as ByFields}
+use Rattle.host.specs.Calls.{packed, operated, keptBy, leftBy, hostMove}
+use Rattle.host.proofs.Answering.{move-broken, history-broken}
+use Rattle.host.proofs.Vectors.{vectors-broken}
+use Rattle.following.specs.Following.{Holding, Call, bytesAfter, sessionAfter}
+use Rattle.following.specs.Left.{Left, Unready}
+use Rattle.following.proofs.Rooms.{length-card, card-head, card-none, card-at, card-past, card-state, rooms, length-rooms, rooms-state, kept-at, rooms-older, rooms-last}
+use Rattle.following.proofs.Opened.{Carried, inputs, atRest, afterBoth, Kept, keeps-none, keeps-card, keeps-rest, keeps-moved, carries, opened, rest-taken, both-taken}
+use Rattle.following.proofs.Following.{zeros-hold, move-is, move-follows, all-follow}
+
+-- a part, and 0 past it, has the entries of the list up to where the list is 0 past the part
+part-padded : (b : List ℕ) (at n to : ℕ) → clear b (at + n) to ≡ true → (i : ℕ) → at + i < to → getD (part b at n) i 0 ≡ getD b (at + i) 0
+part-padded b at n to e i u = go (decLt i n)
+  where
+    go : Dec (i < n) → getD (part b at n) i 0 ≡ getD b (at + i) 0
+    go (yes l) = getD-take n (drop at b) i 0 l ∙ getD-drop at b i 0
+    go (no l) =
+        let short : length (part b at n) ≤ n = rw (length-take n (drop at b)) (omega arith) in
+        List·getD-eq-default (part b at n) 0 {n = i} (omega (arith, short)) ∙ sym (clear-at b (at + n) to e (at + i) (omega arith) u)
+
+-- the same where the card stands, and past all that is kept
+abbrev Elsewhere : List ℕ → List ℕ → Type 0
+Elsewhere x b = (i : ℕ) → (i < 3) ⊎ (515 ≤ i) → 0 < i → i < length b → getD x i 0 ≡ getD b i 0
+
+-- bytes that are the same there, in the state and in the two rooms are the same
+same-bytes : (x b : List ℕ) → length x ≡ length b → getD x 0 0 ≡ getD b 0 0 → ((i : ℕ) → i < 256 → getD x (3 + i) 0 ≡ getD b (3 + i) 0)
+    → ((i : ℕ) → i < 256 → getD x (259 + i) 0 ≡ getD b (259 + i) 0) → Elsewhere x b → x ≡ b
+same-bytes x b e z p q r = ext-getD 0 x b e (λ i l. at i (omega arith) (decLt i 1) (decLt i 3) (decLt i 259) (decLt i 515))
+  where
+    by : (a i : ℕ) → a ≤ i → getD x (a + (i - a)) 0 ≡ getD b (a + (i - a)) 0 → getD x i 0 ≡ getD b i 0
+    by a i l h = let m : a + (i - a) ≡ i = omega arith in subst (λ j. getD x j 0 ≡ getD b j 0) m h
+
+    at : (i : ℕ) → i < length b → Dec (i < 1) → Dec (i < 3) → Dec (i < 259) → Dec (i < 515) → getD x i 0 ≡ getD b i 0
+    at i l (yes a) c d f = let m : 0 ≡ i = omega arith in subst (λ j. getD x j 0 ≡ getD b j 0) m z
+    at i l (no a) (yes c) d f = r i (inl c) (omega arith) l
+    at i l (no a) (no c) (yes d) f = by 3 i (omega arith) (p (i - 3) (omega arith))
+    at i l (no a) (no c) (no d) (yes f) = by 259 i (omega arith) (q (i - 259) (omega arith))
+    at i l (no a) (no c) (no d) (no f) = r i (inr (omega arith)) (omega arith) l
+
+-- Calls that are given bytes: none, and one more
+
+abbrev Given : List Call → Type 0
+Given cs = (c : Call) → c ∈ cs → Bytes (c .given)
+
+none-given : Given []
+none-given c m = absurd (List·Memᴰ·not-nil m)
+
+more-given : (how : Move) (v : List ℕ) (cs : List Call) → Bytes v → Given cs → Given (record { how = how; given = v } ∷ cs)
+more-given how v cs g h c m = go (List·Memᴰ·cases-cons m)
+  where
+    go : (c ≡ record { how = how; given = v }) ⊎ (c ∈ cs) → Bytes (c .given)
+    go (inl e) = subst (λ x. Bytes (x .given)) (sym e) g
+    go (inr n) = h c n
+
+-- The slice of zeros: the same bytes past what is kept
+
+module _ (b : List ℕ) (long : 5895 ≤ length b) (ok : Bytes b) where
+  abbrev zeroed : List ℕ
+  zeroed = area b 0 5895 []
+
+  zeroed-long : 5895 ≤ length zeroed
+  zeroed-long = omega (arith, length-area b 0 5895 [])
+
+  zeroed-bytes : Bytes zeroed
+  zeroed-bytes = area-bytes b 0 5895 [] ok (λ i. lit< tt)
+
+  zeroed-none : (i : ℕ) → i < 5895 → getD zeroed i 0 ≡ 0
+  zeroed-none i l = area-in b 0 5895 [] i long (omega arith) l
+
+  zeroed-past : (i : ℕ) → 5895 ≤ i → i < length b → getD zeroed i 0 ≡ getD b i 0
+  zeroed-past i l u = area-out b 0 5895 [] i (inr l) u
+
+  zeroed-holds : Holding zeroed none
+  zeroed-holds = zeros-hold zeroed zeroed-long zeroed-bytes zeroed-none
+
+  left-by : (calls : List Call) → Given calls → bytesAfter zeroed calls ≡ b → Left b
+  left-by calls g e = record { zeros = zeroed; room = zeroed-long; bytes = zeroed-bytes; empty = zeroed-none; calls = calls; given = g; leave = e }
+
+  -- bytes that are all zeros: no call at all left them
+  none-left : clear b 0 5895 ≡ true → Left b
+  unfolding bytesAfter
+  none-left e = left-by [] none-given (ext-getD 0 zeroed b (length-area b 0 5895 []) (λ i l. at i (omega (arith, l, length-area b 0 5895 [])) (decLt i 5895)))
+    where
+      at : (i : ℕ) → i < length b → Dec (i < 5895) → getD zeroed i 0 ≡ getD b i 0
+      at i l (yes u) = zeroed-none i u ∙ sym (clear-at b 0 5895 e i (omega arith) u)
+      at i l (no u) = zeroed-past i (omega arith) l
+
+-- A call that is done leaves what is kept, and that holds the session that the operation left
+
+call-done : (how : Move) (b v : List ℕ) (s : Session) → Holding b s → Bytes v → (count : ℕ) (next : Session)
+    → operated how s v ≡ record { answer = Done count; session = next } → (hostMove how b v .bytes ≡ keptBy how b v) × Holding (keptBy how b v) next
+call-done how b v s h g count next e =
+    let kept : hostMove how b v .bytes ≡ keptBy how b v =
+    ap (λ x. x .bytes) (move-is b s h v g how) ∙ ap (λ m. leftBy how (m .answer) b v .bytes) e in
+    (kept, subst (Holding (keptBy how b v)) (ap (λ m. m .session) e) (subst (λ x. Holding x (operated how s v .session)) kept (move-follows how b v s h g .0)))
+
+-- Bytes that carry a card
+
+module _ (b : List ℕ) (long : 5895 ≤ length b) (ok : Bytes b) (c : List Net) (k : Carried b c) where
+  abbrev start : List ℕ
+  start = zeroed b long ok
+
+  abbrev card : List ℕ
+  card = part b 515 (u16At b 1)
+
+  abbrev older : List ℕ
+  older = part b 3 (inputs c)
+
+  abbrev last : List ℕ
+  last = part b 259 (inputs c)
+
+  abbrev to : Move → List ℕ → Call
+  to how v = record { how = how; given = v }
+
+  -- the card, loaded of the zeros
+
+  abbrev loaded : List ℕ
+  loaded = keptCard start card
+
+  load-done : (hostMove Load start card .bytes ≡ loaded) × Holding loaded (sessionOf c)
+  load-done =
+      call-done Load start card none (zeroed-holds b long ok) (part-bytes b ok 515 (u16At b 1)) (length c) (sessionOf c)
+      (ap (λ l. record { answer = l .answer; session = l .session }) (carries b ok c k))
+
+  length-loaded : length loaded ≡ length b
+  length-loaded = length-card start card (zeroed-long b long ok) ∙ length-area b 0 5895 []
+
+  loaded-else : Elsewhere loaded b
+  unfolding u16At
+  loaded-else i (inl l) p u = go (decLt i 2)
+    where
+      size : length card ≡ u16At b 1
+      size = ap length (part-listed b 515 (u16At b 1) (omega (arith, long, k .low))) ∙ length-listed _ (u16At b 1)
+
+      go : Dec (i < 2) → getD loaded i 0 ≡ getD b i 0
+      go (yes m) =
+          let h : getD loaded 1 0 ≡ length card % 256 = card-head start card (zeroed-long b long ok) 1 (lit< tt) in
+          let e : getD loaded 1 0 ≡ getD b 1 0 = omega (arith, h, size, ok 1, ok 2) in
+          let q : 1 ≡ i = omega arith in
+          subst (λ j. getD loaded j 0 ≡ getD b j 0) q e
+      go (no m) =
+          let h : getD loaded 2 0 ≡ length card / 256 % 256 = card-head start card (zeroed-long b long ok) 2 (lit< tt) in
+          let e : getD loaded 2 0 ≡ getD b 2 0 = omega (arith, h, size, ok 1, ok 2) in
+          let q : 2 ≡ i = omega arith in
+          subst (λ j. getD loaded j 0 ≡ getD b j 0) q e
+  loaded-else i (inr l) p u = go (decLt i 5895)
+    where
+      go : Dec (i < 5895) → getD loaded i 0 ≡ getD b i 0
+      go (yes m) =
+          let q : 515 + (i - 515) ≡ i = omega arith in
+          card-at start card (zeroed-long b long ok) i l m ∙ part-padded b 515 (u16At b 1) 5895 (k .empty) (i - 515) (omega arith) ∙ ap (λ j. getD b j 0) q
+      go (no m) = card-past start card (zeroed-long b long ok) i (omega arith) (omega (arith, u, length-area b 0 5895 [])) ∙ zeroed-past b long ok i (omega arith) u
+
+  -- a card that was not rested: one call left it
+  card-left : getD b 0 0 ≡ 1 → fitting b 0 0 ≡ true → Left b
+  unfolding bytesAfter
+  card-left z f =
+      let clean = and-both (clear b 3 259) (clear b 259 515) f in
+      let begun = zeroed-long b long ok in
+      left-by b long ok (to Load card ∷ []) (more-given Load card [] (part-bytes b ok 515 (u16At b 1)) none-given)
+      (load-done .0
+      ∙ same-bytes loaded b length-loaded (card-state start card begun ∙ sym z)
+      (λ i l. card-none start card begun (3 + i) (omega arith) (omega arith) ∙ sym (clear-at b 3 259 (clean .0) (3 + i) (omega arith) (omega arith)))
+      (λ i l. card-none start card begun (259 + i) (omega arith) (omega arith) ∙ sym (clear-at b 259 515 (clean .1) (259 + i) (omega arith) (omega arith)))
+      loaded-else)
+
+  -- it rested by a vector
+
+  loaded-long : 5895 ≤ length loaded
+  loaded-long = omega (arith, length-loaded, long)
+
+  abbrev rested : List ℕ → List ℕ
+  rested v = rooms loaded 2 (0 ∷ []) v
+
+  rest-done : (v : List ℕ) → Bytes v → Vector (inputs c) v → (hostMove Rest loaded v .bytes ≡ rested v) × Holding (rested v) (atRest c v)
+  unfolding keptRest
+  rest-done v g w = call-done Rest loaded v (sessionOf c) (load-done .1) g 0 (atRest c v) (rest-taken c v w)
+
+  length-rested : (v : List ℕ) → length (rested v) ≡ length b
+  length-rested v = length-rooms loaded 2 (0 ∷ []) v ∙ length-loaded
+
+  rested-else : (v : List ℕ) → Elsewhere (rested v) b
+  rested-else v i o p u = kept-at loaded 2 (0 ∷ []) v loaded-long i o p (omega (arith, length-loaded, u)) ∙ loaded-else i o p u
+
+  -- a card at rest: two calls left it
+  rest-left : getD b 0 0 ≡ 2 → fitting b 0 (inputs c) ≡ true → Vector (inputs c) last → Left b
+  unfolding bytesAfter
+  rest-left z f w =
+      let clean = and-both (clear b 3 259) (clear b (259 + inputs c) 515) f in
+      let bytes = part-bytes b ok 259 (inputs c) in
+      left-by b long ok (to Load card ∷ to Rest last ∷ [])
+      (more-given Load card (to Rest last ∷ []) (part-bytes b ok 515 (u16At b 1)) (more-given Rest last [] bytes none-given))
+      (ap (λ x. hostMove Rest x last .bytes) (load-done .0) ∙ rest-done last bytes w .0
+      ∙ same-bytes (rested last) b (length-rested last) (rooms-state loaded 2 (0 ∷ []) last loaded-long ∙ sym z)
+      (λ i l. rooms-older loaded 2 (0 ∷ []) last loaded-long i l ∙ zero-byte i ∙ sym (clear-at b 3 259 (clean .0) (3 + i) (omega arith) (omega arith)))
+      (λ i l. rooms-last loaded 2 (0 ∷ []) last loaded-long i l ∙ part-padded b 259 (inputs c) 515 (clean .1) i (omega arith))
+      (rested-else last))
+
+  -- and moved by another
+
+  abbrev before : List ℕ
+  before = rested older
+
+  before-long : 5895 ≤ length before
+  before-long = omega (arith, length-rested older, long)
+
+  abbrev moved : List ℕ
+  moved = rooms before 3 (lastRoom before) last
+
+  move-done : Vector (inputs c) older → Vector (inputs c) last → hostMove ByFields before last .bytes ≡ moved
+  unfolding keptVector
+  move-done w u =
+      call-done ByFields before last (atRest c older) (rest-done older (part-bytes b ok 3 (inputs c)) w .1) (part-bytes b ok 259 (inputs c)) 0
+      (afterBoth c older last) (both-taken c older last u) .0
+
+  -- a card that a vector moved: three calls left it
+  moved-left : getD b 0 0 ≡ 3 → fitting b (inputs c) (inputs c) ≡ true → Vector (inputs c) older → Vector (inputs c) last → Left b
+  unfolding bytesAfter
+  moved-left z f w u =
+      let clean = and-both (clear b (3 + inputs c) 259) (clear b (259 + inputs c) 515) f in
+      let first = part-bytes b ok 3 (inputs c) in
+      let second = part-bytes b ok 259 (inputs c) in
+      left-by b long ok (to Load card ∷ to Rest older ∷ to ByFields last ∷ [])
+      (more-given Load card (to Rest older ∷ to ByFields last ∷ []) (part-bytes b ok 515 (u16At b 1))
+      (more-given Rest older (to ByFields last ∷ []) first (more-given ByFields last [] second none-given)))
+      (ap (λ x. hostMove ByFields (hostMove Rest x older .bytes) last .bytes) (load-done .0)
+      ∙ ap (λ x. hostMove ByFields x last .bytes) (rest-done older first w .0) ∙ move-done w u
+      ∙ same-bytes moved b (length-rooms before 3 (lastRoom before) last ∙ length-rested older)
+      (rooms-state before 3 (lastRoom before) last before-long ∙ sym z)
+      (λ i l. rooms-older before 3 (lastRoom before) last before-long i l ∙ room-at before i l ∙ rooms-last loaded 2 (0 ∷ []) older loaded-long i l
+      ∙ part-padded b 3 (inputs c) 259 (clean .0) i (omega arith))
+      (λ i l. rooms-last before 3 (lastRoom before) last before-long i l ∙ part-padded b 259 (inputs c) 515 (clean .1) i (omega arith))
+      (λ i o p q. kept-at before 3 (lastRoom before) last before-long i o p (omega (arith, length-rested older, q)) ∙ rested-else older i o p q))
+
+-- Bytes that no call left answer 12
+
+-- bytes from which a session is made again are bytes that some calls left of a slice of zeros
+pub bytes-left : (b : List ℕ) → 5895 ≤ length b → Bytes b → madeAgain b .whole ≡ true → Left b
+bytes-left b long ok e = go (madeAgain b .session) (opened b ok (madeAgain b .session) (ap (λ x. record { whole = x; session = madeAgain b .session }) e))
+  where
+    go : (s : Session) → Kept b s → Left b
+    go s (keeps-none z q) = none-left b long ok q
+    go s (keeps-card c k z f) = card-left b long ok c k z f
+    go s (keeps-rest c k z f w) = rest-left b long ok c k z f w
+    go s (keeps-moved c k z f w u) = moved-left b long ok c k z f w u
+
+-- and of bytes that some calls left a session is made again
+pub left-made : (b : List ℕ) → Left b → (5895 ≤ length b) × Bytes b × (madeAgain b .whole ≡ true)
+left-made b l =
+    let h = subst (λ x. Holding x (sessionAfter none (l .calls))) (l .leave) (all-follow (l .calls) (l .zeros) (l .room) (l .bytes) (l .empty) (l .given) .0) in
+    (h .room, h .bytes, ap (λ m. m .whole) (h .made))
+
+-- of bytes that no calls left of a slice of zeros, every call answers 12 and leaves everything as it was
+pub unleft-12 : (b : List ℕ) → 5895 ≤ length b → Bytes b → ¬ Left b → Unready b
+unfolding packed
+unleft-12 b long ok n = go (yes-or-no (madeAgain b .whole))
+  where
+    go : (madeAgain b .whole ≡ true) ⊎ (madeAgain b .whole ≡ false) → Unready b
+    go (inl e) = absurd (n (bytes-left b long ok e))
+    go (inr e) = record {
+      moves = λ how v. sym (move-broken how b v 12 long e refl);
+      histories = λ words befores flags. sym (history-broken b words befores flags 12 long e refl);
+      vectors = λ vs room. sym (vectors-broken b vs room 12 long e refl);
+    }

@@ -1,9 +1,0 @@
--- Lent room that is written from its front: "Lent room past the part written keeps its contents." Assumes nothing.
-use mathlib.Core.List.{List}
-use Prim.Native.Nat.{ℕ}
-use lib.ListN.{length, getD}
-use Rattle.lists.specs.Listed.{listed, upto}
-
--- f 0, f 1, ..: n of them, at the front of some room
-abbrev pub filled : (ℕ → ℕ) → ℕ → List ℕ → List ℕ
-filled f n room = listed (upto f (λ i. getD room i 0) n) (length room)

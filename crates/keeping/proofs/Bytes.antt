@@ -1,0 +1,34 @@
+-- Bytes stay bytes: in an area, in a part and in the room of the last vector. Assumes nothing.
+use mathlib.Core.Path.{_≡_, refl}
+use mathlib.Core.List.{List, [], _∷_}
+use Prim.Native.Nat.{ℕ, zero, suc, _+_, _<_}
+use lib.Dec.{lit<}
+use lib.ListN.{getD}
+use Rattle.lists.specs.Places.{part, area}
+use Rattle.lists.proofs.Listed.{listed-at, listed-all}
+use Rattle.lists.proofs.Places.{area-all, part-all}
+use Rattle.records.specs.Written.{Bytes}
+use Rattle.keeping.specs.Kept.{lastRoom}
+
+pub area-bytes : (b : List ℕ) (at to : ℕ) (v : List ℕ) → Bytes b → Bytes v → Bytes (area b at to v)
+area-bytes b at to v h k = area-all (λ x. x < 256) (lit< tt) b h at to v k
+
+pub part-bytes : (b : List ℕ) → Bytes b → (at n : ℕ) → Bytes (part b at n)
+part-bytes b h at n = part-all (λ x. x < 256) (lit< tt) b h at n
+
+pub room-bytes : (b : List ℕ) → Bytes b → Bytes (lastRoom b)
+unfolding lastRoom
+room-bytes b h i = listed-all (λ x. x < 256) (λ i. getD b (259 + i) 0) 256 i 0 (h (259 + i)) (lit< tt)
+
+pub room-at : (b : List ℕ) (i : ℕ) → i < 256 → getD (lastRoom b) i 0 ≡ getD b (259 + i) 0
+unfolding lastRoom
+room-at b i l = listed-at (λ i. getD b (259 + i) 0) 256 i 0 l
+
+-- one byte
+pub one-byte : (k : ℕ) → k < 256 → Bytes (k ∷ [])
+one-byte k l zero = l
+one-byte k l (suc i) = lit< tt
+
+pub zero-byte : (i : ℕ) → getD {A = ℕ} (0 ∷ []) i 0 ≡ 0
+zero-byte zero = refl
+zero-byte (suc i) = refl

@@ -1,0 +1,101 @@
+// A session in lent bytes: the card's own bytes and the last two vectors, and what is written there after each operation that was done.
+//
+//     byte 0          what is kept: 0 nothing, 1 a card, 2 a card at rest, 3 a card that a vector moved
+//     bytes 1, 2      the length of the card's bytes, low byte first
+//     bytes 3 ..      room for a vector of 256 bytes: the one before the last
+//     bytes 259 ..    room for a vector of 256 bytes: the last one
+//     bytes 515 ..    room for a card of 5,380 bytes
+//
+// A slice of zeros is the empty session.
+ghost use mathlib.Core.Path.{_≡_};
+ghost use Prim.Native.Nat.{_≤_};
+ghost use lib.ListN.{length, getD};
+ghost use Rattle.lists.specs.Places.{clear, area};
+ghost use Rattle.keeping.specs.Kept.{lastRoom, keptCard, keptRest, keptVector};
+
+// How many bytes a session takes.
+pub const SESSION: usize = 5895;
+
+// Whether the bytes from one place to another are all 0.
+pub fn is_clear(b: &[u8], from: usize, to: usize) -> bool
+    requires { ⌜ to ≤ length (now b) ⌝ }
+    ensures { λ r. ⌜ r ≡ clear (now (b .entry)) from to ⌝ }
+{
+    let mut i = from;
+    while i < to {
+        if b[i] != 0 {
+            return false;
+        }
+        i += 1;
+    }
+    true
+}
+
+fn byte_at(v: &[u8], i: usize) -> u8
+    ensures { λ r. ⌜ r ≡ getD (now (v .entry)) i 0 ⌝ }
+{
+    if i < v.len() { v[i] } else { 0 }
+}
+
+// The bytes of a list from one place to another, and 0 past its end.
+fn put_area(b: &mut [u8], at: usize, to: usize, v: &[u8])
+    requires { ⌜ (at ≤ to) × (to ≤ length (now b)) ⌝ }
+    ensures { λ r. ⌜ now (b .exit) ≡ area (now (b .entry)) at to (now (v .entry)) ⌝ }
+{
+    let mut i = at;
+    while i < to {
+        b[i] = byte_at(v, i - at);
+        i += 1;
+    }
+}
+
+// The room of the last vector.
+fn last_room(b: &[u8]) -> [u8; 256]
+    requires { ⌜ 5895 ≤ length (now b) ⌝ }
+    ensures { λ r. ⌜ r ≡ lastRoom (now (b .entry)) ⌝ }
+{
+    let mut out = [0u8; 256];
+    let mut i: usize = 0;
+    while i < 256 {
+        out[i] = b[259 + i];
+        i += 1;
+    }
+    out
+}
+
+// A card that was just loaded: its bytes, and no vector.
+pub fn keep_card(b: &mut [u8], card: &[u8])
+    requires { ⌜ 5895 ≤ length (now b) ⌝ }
+    ensures { λ r. ⌜ now (b .exit) ≡ keptCard (now (b .entry)) (now (card .entry)) ⌝ }
+{
+    let len = card.len();
+    let head = [1u8, (len % 256) as u8, (len / 256 % 256) as u8];
+    let none = [0u8; 1];
+    put_area(b, 0, 3, &head);
+    put_area(b, 3, 515, &none);
+    put_area(b, 515, 5895, card);
+}
+
+// A card that was just rested: the vector, and none before it.
+pub fn keep_rest(b: &mut [u8], v: &[u8])
+    requires { ⌜ 5895 ≤ length (now b) ⌝ }
+    ensures { λ r. ⌜ now (b .exit) ≡ keptRest (now (b .entry)) (now (v .entry)) ⌝ }
+{
+    let state = [2u8; 1];
+    let none = [0u8; 1];
+    put_area(b, 0, 1, &state);
+    put_area(b, 3, 259, &none);
+    put_area(b, 259, 515, v);
+}
+
+// A card that a vector just moved: the vector, and the last one before it.
+pub fn keep_vector(b: &mut [u8], v: &[u8])
+    requires { ⌜ 5895 ≤ length (now b) ⌝ }
+    ensures { λ r. ⌜ now (b .exit) ≡ keptVector (now (b .entry)) (now (v .entry)) ⌝ }
+{
+    let state = [3u8; 1];
+    let last = last_room(b);
+    put_area(b, 0, 1, &state);
+    put_area(b, 3, 259, &last);
+    put_area(b, 259, 515, v);
+}

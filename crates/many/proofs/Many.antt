@@ -1,0 +1,189 @@
+-- Many vectors, one after another: the places of their bytes and words, and one vector more. Assumes nothing.
+use mathlib.Core.Path.{_≡_, refl, sym, ap, ap₂, _∙_, subst}
+use mathlib.Core.Bool.{Bool, true, false, cond}
+use mathlib.Core.List.{List}
+use Prim.Native.Nat.{ℕ, zero, suc, _+_, _-_, _*_, _/_, _%_, _<_, _≤_}
+use native.Mathlib.Nat.{suc-mul, mul-le-mul-right, le-div-iff-mul-le, div-lt-iff-lt-mul}
+use native.Mathlib.Omega.{arith}
+use lib.Dec.{eqb, leb}
+use lib.ListN.{length, getD}
+use borrow.Author.Tests.{eq-eqb, ne-eqb, lt-leb, le-leb, leb-true, ltb-true}
+use Rattle.lists.specs.Entries.{_∈_, every}
+use Rattle.lists.specs.Listed.{listed}
+use Rattle.lists.specs.Places.{part, area}
+use Rattle.lists.proofs.Tests.{every-at}
+use Rattle.lists.proofs.Order.{at-in}
+use Rattle.lists.proofs.Listed.{length-listed, out-listed}
+use Rattle.lists.proofs.Places.{length-area, part-listed}
+use Rattle.rule.specs.declared.Refusal.the-variants.{NotReady, VectorLength, VectorByte, NoRoom}
+use Rattle.rule.specs.declared.Answer.the-variants.{Done, Refused}
+use Rattle.inputs.specs.Allowed.{byteLimit, Vector}
+use Rattle.inputs.specs.Inputs.{byteFits, inputNets, given}
+use Rattle.fields.specs.Fields.{advanced}
+use Rattle.card.specs.declared.Session.{Session}
+use Rattle.card.specs.Session.{resting}
+use Rattle.session.specs.Good.{Good, histories}
+use Rattle.session.specs.Moves.{movedBy, vectorOf}
+use Rattle.session.proofs.Held.{inputs-ranked}
+use Rattle.session.proofs.Moving.{words-move}
+use Rattle.session.proofs.Kept.{vector-good}
+use Rattle.session.proofs.Refusals.{vector-takes}
+use Rattle.many.specs.Many.{manyRun, manyJudged, keptAt, keptMany}
+
+pub turn-next : (j n : ℕ) → j * n + n ≡ (j + 1) * n
+turn-next j n = let e : j + 1 ≡ suc j = omega arith in sym (ap (λ k. k * n) e ∙ suc-mul j n)
+
+pub turn-fits : (j k n l : ℕ) → j < k → k * n ≤ l → j * n + n ≤ l
+turn-fits j k n l b h =
+    let more : (j + 1) * n ≤ k * n = mul-le-mul-right n (omega arith) in
+    omega (arith, more, turn-next j n, h)
+
+-- one vector more
+pub many-more : (s : Session) (vs : List ℕ) (n j : ℕ) (room : List ℕ)
+    → manyRun s vs n (j + 1) room
+    ≡ (let ran = manyRun s vs n j room in
+    let next = vectorOf (ran .session) (part vs (j * n) n) .session in
+    record { session = next; words = area (ran .words) (j * s .nets) (j * s .nets + s .nets) (next .words) })
+unfolding manyRun
+many-more s vs n j room = let e : j + 1 ≡ suc j = omega arith in ap (λ k. manyRun s vs n k room) e ∙ step
+  where
+    step : manyRun s vs n (suc j) room
+        ≡ (let ran = manyRun s vs n j room in
+        let next = vectorOf (ran .session) (part vs (j * n) n) .session in
+        record { session = next; words = area (ran .words) (j * s .nets) (j * s .nets + s .nets) (next .words) })
+    step = refl
+
+pub many-length : (s : Session) (vs : List ℕ) (n k : ℕ) (room : List ℕ) → length (manyRun s vs n k room .words) ≡ length room
+unfolding manyRun
+many-length s vs n zero room = refl
+many-length s vs n (suc k) room = length-area _ _ _ _ ∙ many-length s vs n k room
+
+-- a vector's bytes, of many that fit
+pub many-vector : (vs : List ℕ) (n j : ℕ) → every byteFits vs ≡ true → j * n + n ≤ length vs → Vector n (part vs (j * n) n)
+many-vector vs n j fits l = record { size = ap length is ∙ length-listed byte n; bits = bits }
+  where
+    byte : ℕ → ℕ
+    byte i = getD vs (j * n + i) 0
+
+    is : part vs (j * n) n ≡ listed byte n
+    is = part-listed vs (j * n) n l
+
+    bits : (b : ℕ) → b ∈ part vs (j * n) n → b < byteLimit
+    bits b m =
+        let o = out-listed byte n b (subst (λ xs. b ∈ xs) is m) in
+        let i = o .0 in
+        let low = ltb-true (byte i) byteLimit (every-at byteFits vs fits (byte i) (at-in vs (j * n + i) 0 (omega (arith, o .1)))) in
+        omega (arith, o .2, low)
+
+-- Many vectors that fit, on a rested session: it keeps its card, and the words alone go from one vector to the next
+
+module _ (s : Session) (g : Good s) (r : s .rested ≡ true) (vs room : List ℕ) (fits : every byteFits vs ≡ true) where
+  abbrev left : ℕ → Session
+  left j = manyRun s vs (s .inputs) j room .session
+
+  abbrev bytes : ℕ → List ℕ
+  bytes j = part vs (j * s .inputs) (s .inputs)
+
+  pub record Left (z : Session) : Type 0 where
+    pub good : Good z
+    pub same : z ≡ resting s true (z .before) (z .words)
+
+  next-left : (z : Session) → Left z → (v : List ℕ) → Vector (s .inputs) v → Left (vectorOf z v .session)
+  unfolding movedBy
+  next-left z h v w =
+      let rested : z .rested ≡ true = ap (λ x. x .rested) (h .same) in
+      let w′ : Vector (z .inputs) v = subst (λ x. Vector (x .inputs) v) (sym (h .same)) w in
+      let m = movedBy z (given (z .kinds) v) in
+      let e : vectorOf z v .session ≡ m = ap (λ x. x .session) (vector-takes z v rested w′) in
+      record {
+        good = vector-good z (h .good) v;
+        same = e ∙ ap (λ x. resting x (x .rested) (m .before) (m .words)) (h .same) ∙ sym (ap (λ x. resting s true (x .before) (x .words)) e);
+      }
+
+  pub many-left : (j : ℕ) → j * s .inputs ≤ length vs → Left (left j)
+  unfolding manyRun
+  many-left zero l = record { good = g; same = ap (λ b. resting s b (s .before) (s .words)) r }
+  many-left (suc j) l =
+      let more = turn-next j (s .inputs) in
+      let e : j + 1 ≡ suc j = omega arith in
+      let l′ : j * s .inputs + s .inputs ≤ length vs = omega (arith, more, ap (λ k. k * s .inputs) e, l) in
+      next-left (left j) (many-left j (omega (arith, l′))) (bytes j) (many-vector vs (s .inputs) j fits l′)
+
+  pub left-long : (j : ℕ) → j * s .inputs ≤ length vs → length (left j .words) ≡ 256
+  unfolding histories
+  left-long j l = let h = many-left j l in let held = h .good .rest (ap (λ x. x .rested) (h .same)) .1 in ap length (held .words-are) ∙ length-listed _ 256
+
+  pub next-words : (j : ℕ) → j * s .inputs + s .inputs ≤ length vs
+      → advanced (inputNets (s .kinds) 256) (s .types) (s .counts) (s .places) (listed (λ i. getD (s .order) i 0) (s .gates)) (left j .words) (bytes j) ≡ vectorOf (left j) (bytes j) .session .words
+  next-words j l =
+      let h = many-left j (omega (arith, l)) in
+      let z = left j in
+      let rested : z .rested ≡ true = ap (λ x. x .rested) (h .same) in
+      let w′ : Vector (z .inputs) (bytes j) = subst (λ x. Vector (x .inputs) (bytes j)) (sym (h .same)) (many-vector vs (s .inputs) j fits l) in
+      let held = h .good .rest rested in
+      sym (ap (λ x. advanced (inputNets (x .kinds) 256) (x .types) (x .counts) (x .places) (listed (λ i. getD (x .order) i 0) (x .gates)) (z .words) (bytes j)) (h .same))
+      ∙ words-move z (h .good .card (held .0)) (held .1) (bytes j) (w′ .size ∙ inputs-ranked z (h .good .card (held .0)))
+      ∙ sym (ap (λ x. x .session .words) (vector-takes z (bytes j) rested w′))
+
+-- What is kept
+
+pub kept-none : (b vs : List ℕ) (n k : ℕ) → k ≡ 0 → b ≡ keptMany b vs n k
+unfolding keptMany
+kept-none b vs n k e = ap (keptMany b vs n) (sym e)
+
+pub kept-one : (b vs : List ℕ) (n k : ℕ) → k ≡ 1 → keptAt b vs n 0 ≡ keptMany b vs n k
+unfolding keptMany
+kept-one b vs n k e = ap (keptMany b vs n) (sym e)
+
+pub kept-two : (b vs : List ℕ) (n k : ℕ) → ¬ (k ≡ 0) → ¬ (k ≡ 1) → keptAt (keptAt b vs n (k - 2)) vs n (k - 1) ≡ keptMany b vs n k
+unfolding keptMany
+kept-two b vs n zero x y = absurd (x refl)
+kept-two b vs n (suc zero) x y = absurd (y refl)
+kept-two b vs n (suc (suc k)) x y =
+    let two : suc (suc k) - 2 ≡ k = omega arith in
+    let one : suc (suc k) - 1 ≡ suc k = omega arith in
+    ap₂ (λ i j. keptAt (keptAt b vs n i) vs n j) two one
+
+-- The judgement
+
+module _ (s : Session) (vs : List ℕ) (room : ℕ) where
+  abbrev count : ℕ
+  count = length vs / s .inputs
+
+  pub many-12 : s .rested ≡ false → Refused NotReady ≡ manyJudged s vs room
+  unfolding manyJudged
+  many-12 e = rw e
+
+  pub many-10 : s .rested ≡ true → ¬ (length vs % s .inputs ≡ 0) → Refused VectorLength ≡ manyJudged s vs room
+  unfolding manyJudged
+  many-10 e n = rw (e, ne-eqb (length vs % s .inputs) 0 n)
+
+  pub many-11 : s .rested ≡ true → length vs % s .inputs ≡ 0 → every byteFits vs ≡ false → Refused VectorByte ≡ manyJudged s vs room
+  unfolding manyJudged
+  many-11 e z f = rw (e, eq-eqb (length vs % s .inputs) 0 z, f)
+
+  pub many-18 : s .rested ≡ true → length vs % s .inputs ≡ 0 → every byteFits vs ≡ true → 0 < s .nets → room / s .nets < count → Refused NoRoom ≡ manyJudged s vs room
+  unfolding manyJudged
+  many-18 e z f p l =
+      let much : room < count * s .nets = div-lt-iff-lt-mul p .0 l in
+      rw (e, eq-eqb (length vs % s .inputs) 0 z, f, lt-leb (count * s .nets) room much)
+
+  pub many-0 : s .rested ≡ true → length vs % s .inputs ≡ 0 → every byteFits vs ≡ true → 0 < s .nets → count ≤ room / s .nets → Done count ≡ manyJudged s vs room
+  unfolding manyJudged
+  many-0 e z f p l =
+      let fits : count * s .nets ≤ room = le-div-iff-mul-le p .0 l in
+      rw (e, eq-eqb (length vs % s .inputs) 0 z, f, le-leb (count * s .nets) room fits)
+
+  -- what a judgement that is done says
+  pub many-asks : (k : ℕ) → manyJudged s vs room ≡ Done k → (s .rested ≡ true) × (every byteFits vs ≡ true) × (k ≡ count) × (k * s .nets ≤ room)
+  unfolding manyJudged
+  many-asks k e = go (s .rested) refl (eqb (length vs % s .inputs) 0) (every byteFits vs) refl (leb (count * s .nets) room) refl e
+    where
+      go : (x : Bool) → s .rested ≡ x → (y z : Bool) → every byteFits vs ≡ z → (w : Bool) → leb (count * s .nets) room ≡ w
+          → cond x (cond y (cond z (cond w (Done count) (Refused NoRoom)) (Refused VectorByte)) (Refused VectorLength)) (Refused NotReady) ≡ Done k
+          → (s .rested ≡ true) × (every byteFits vs ≡ true) × (k ≡ count) × (k * s .nets ≤ room)
+      go true r true true f true q d = let h : k ≡ count = cc in (r, f, h, rw h (leb-true (count * s .nets) room q))
+      go true r true true f false q d = let z : _≡_ {A = ℕ} 0 1 = cc in absurd (omega arith)
+      go true r true false f w q d = let z : _≡_ {A = ℕ} 0 1 = cc in absurd (omega arith)
+      go true r false z f w q d = let z : _≡_ {A = ℕ} 0 1 = cc in absurd (omega arith)
+      go false r y z f w q d = let z : _≡_ {A = ℕ} 0 1 = cc in absurd (omega arith)

@@ -1,0 +1,50 @@
+-- Many vectors in one call. Assumes nothing.
+use mathlib.Core.Bool.{cond}
+use mathlib.Core.List.{List}
+use Prim.Native.Nat.{ℕ, zero, suc, _+_, _*_, _/_, _%_}
+use lib.Dec.{eqb, leb}
+use lib.ListN.{length}
+use Rattle.lists.specs.Entries.{every}
+use Rattle.lists.specs.Places.{part, area}
+use Rattle.rule.specs.declared.Refusal.the-variants.{NotReady, VectorLength, VectorByte, NoRoom}
+use Rattle.rule.specs.declared.Answer.{Answer}
+use Rattle.rule.specs.declared.Answer.the-variants.{Done, Refused}
+use Rattle.inputs.specs.Inputs.{byteFits}
+use Rattle.card.specs.declared.Session.{Session}
+use Rattle.session.specs.Moves.{vectorOf}
+use Rattle.keeping.specs.Kept.{keptVector}
+
+-- a session, and lent room for words
+pub record Ran : Type 0 where
+  pub session : Session
+  pub words : List ℕ
+
+-- vectors of n bytes each, one after another, the first k of them: each leaves a session, and the words of its history go to the room, after those of
+-- the vectors ahead of it
+unfoldable pub manyRun : Session → List ℕ → ℕ → ℕ → List ℕ → Ran
+manyRun s vs n zero room = record { session = s; words = room }
+manyRun s vs n (suc k) room =
+    let ran = manyRun s vs n k room in
+    let next = vectorOf (ran .session) (part vs (k * n) n) .session in
+    record { session = next; words = area (ran .words) (k * s .nets) (k * s .nets + s .nets) (next .words) }
+
+-- "Vector by either engine: 12, 10, 11", of many at once: as many bytes as there are inputs for each, every one 0 or 1; and 18 where there is too little room
+-- for a word a net and vector. Done says how many vectors they are
+unfoldable pub manyJudged : Session → List ℕ → ℕ → Answer
+manyJudged s vs room =
+    cond (s .rested)
+    (cond (eqb (length vs % s .inputs) 0)
+    (cond (every byteFits vs)
+    (cond (leb (length vs / s .inputs * s .nets) room) (Done (length vs / s .inputs)) (Refused NoRoom))
+    (Refused VectorByte))
+    (Refused VectorLength))
+    (Refused NotReady)
+
+-- what is kept of the bytes after vector j; after k of them, the last two
+abbrev pub keptAt : List ℕ → List ℕ → ℕ → ℕ → List ℕ
+keptAt b vs n j = keptVector b (part vs (j * n) n)
+
+unfoldable pub keptMany : List ℕ → List ℕ → ℕ → ℕ → List ℕ
+keptMany b vs n zero = b
+keptMany b vs n (suc zero) = keptAt b vs n 0
+keptMany b vs n (suc (suc k)) = keptAt (keptAt b vs n k) vs n (suc k)

@@ -1,0 +1,3 @@
+pub mod Pins
+pub mod Stores
+pub mod Histories

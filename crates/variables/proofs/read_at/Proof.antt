@@ -1,0 +1,66 @@
+-- `variables::read_at` meets its contract. Assumes nothing.
+use mathlib.Core.Logic.{⊎-elim}
+use Prim.Native.Nat.{_<_}
+use native.Mathlib.Omega.{arith}
+use Rattle.rule.specs.Net.{openPin}
+use Rattle.variables.proofs.Pins.{read-open, read-net}
+use borrow.Author.Needs.{needs}
+use Rattle.variables.proofs.read_at.Statement.{statement}
+use Rattle.variables.proofs.read_at.Tie as tie
+
+-- a pin that is not open names a net
+below : (c : tie.After-wide16) → c .wide16 .result < 256
+unfolding openPin
+below c =
+    let e = c .wide16 .ensures in
+    ⊎-elim (λ l. omega arith) (λ q. absurd (c .before .if1 .left q)) (c .before .before .pre .1)
+
+returns : tie.Need-returns
+unfolding openPin
+returns c = let a = c .before .args in read-open (a .loose) (a .words .now) (a .sets .now) (a .t) (a .p) (c .if1 .taken)
+
+wide16-requires : tie.Need-wide16-requires
+wide16-requires c κs = search needs
+
+mul-t10 : tie.Need-mul-t10
+mul-t10 c = search needs
+
+element-copy-out-t13 : tie.Need-element-copy-out-t13
+element-copy-out-t13 c = below c
+
+mul-t10-2 : tie.Need-mul-t10-2
+mul-t10-2 c = search needs
+
+element-copy-out-t13-2 : tie.Need-element-copy-out-t13-2
+element-copy-out-t13-2 c = below (c .before)
+
+with-zero-requires : tie.Need-with-zero-requires
+with-zero-requires c κs = search needs
+
+largest-below-requires : tie.Need-largest-below-requires
+largest-below-requires c κs = search needs
+
+has-requires : tie.Need-has-requires
+has-requires c κs = search needs
+
+returns-2 : tie.Need-returns-2
+unfolding openPin
+returns-2 c =
+    let a = c .before .before .before .before .before .before .before .args in
+    read-net (a .loose) (a .words .now) (a .sets .now) (a .t) (a .p) _ _ _ _ (c .before .before .before .before .before .before .before .pre .0) (c .before .before .before .before .before .before .if1 .left) (c .before .before .before .before .before .wide16 .ensures)
+    (c .before .before .with-zero .ensures) (c .before .largest-below .ensures) (c .has .ensures)
+
+pub read-at-spec : {M : Type 1} → statement M
+read-at-spec =
+    tie.close
+    (tie.spec
+    returns
+    wide16-requires
+    mul-t10
+    element-copy-out-t13
+    mul-t10-2
+    element-copy-out-t13-2
+    with-zero-requires
+    largest-below-requires
+    has-requires
+    returns-2)

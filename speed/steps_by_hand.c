@@ -1,0 +1,98 @@
+#include "steps_by_hand.h"
+
+#include <string.h>
+
+static int largest_below(uint64_t set, int time)
+{
+    return 63 - __builtin_clzll((set | 1) & ((UINT64_C(1) << time) - 1));
+}
+
+static void make_list(struct hand_steps *st, const struct hand *h)
+{
+    int k = 0;
+    for (int g = 0; g < h->gates; g++)
+        for (uint64_t left = st->set[h->order[g]]; left; left &= left - 1) {
+            st->net[k] = (uint16_t)h->order[g];
+            st->time[k++] = (uint8_t)__builtin_ctzll(left);
+        }
+    st->steps = k;
+}
+
+void hand_steps_load(struct hand_steps *st, const struct hand *h)
+{
+    memset(st, 0, sizeof *st);
+    for (int n = 0; n <= SIM_NETS; n++)
+        st->set[n] = 1;
+    for (int g = 0; g < h->gates; g++) {
+        int n = h->order[g];
+        uint64_t set = 0;
+        for (int p = 0; p < h->pins[n]; p++)
+            set |= st->set[h->pin[n][p]];
+        st->set[n] = set << 1;
+    }
+    make_list(st, h);
+    for (int k = 0; k < st->steps; k++)
+        for (int p = 0; p < h->pins[st->net[k]]; p++) {
+            uint16_t from = h->pin[st->net[k]][p];
+            st->read[k][p] = (struct hand_read){from, (uint8_t)largest_below(st->set[from], st->time[k])};
+        }
+}
+
+static void start(struct hand_steps *st, const struct hand *h, const uint8_t *before, const uint8_t *vector)
+{
+    for (int n = 0; n < h->nets; n++)
+        st->variable[n] = before[n] ? ~UINT64_C(0) : 0;
+    for (int i = 0; i < h->inputs; i++)
+        st->variable[h->input[i]] = vector[i] ? ~UINT64_C(0) : 0;
+}
+
+static inline unsigned with_pin(int type, unsigned known, unsigned value)
+{
+    return type > 5 ? known ^ value : type > 3 ? known | value : known & value;
+}
+
+static inline void put(struct hand_steps *st, int n, int time, unsigned value)
+{
+    st->variable[n] = (st->variable[n] & ~(UINT64_C(1) << time)) | (uint64_t)value << time;
+}
+
+static void fill(struct hand_steps *st, const struct hand *h)
+{
+    for (int n = 0; n < h->nets; n++) {
+        uint64_t known = st->set[n] | 1, v = st->variable[n] & known;
+        for (int s = 1; s < 64; s += s) {
+            v |= (v << s) & ~known;
+            known |= known << s;
+        }
+        st->word[n] = v;
+    }
+}
+
+void hand_steps_vector(struct hand_steps *st, const struct hand *h, const uint8_t *before, const uint8_t *vector)
+{
+    make_list(st, h);
+    start(st, h, before, vector);
+    for (int k = 0; k < st->steps; k++) {
+        int n = st->net[k], time = st->time[k], type = h->type[n], pins = h->pins[n];
+        const uint16_t *pin = h->pin[n];
+        unsigned known = st->variable[pin[0]] >> largest_below(st->set[pin[0]], time) & 1;
+        for (int p = 1; p < pins; p++)
+            known = with_pin(type, known, st->variable[pin[p]] >> largest_below(st->set[pin[p]], time) & 1);
+        put(st, n, time, known ^ (type & 1));
+    }
+    fill(st, h);
+}
+
+void hand_steps_ready(struct hand_steps *st, const struct hand *h, const uint8_t *before, const uint8_t *vector)
+{
+    start(st, h, before, vector);
+    for (int k = 0; k < st->steps; k++) {
+        int n = st->net[k], type = h->type[n], pins = h->pins[n];
+        const struct hand_read *read = st->read[k];
+        unsigned known = st->variable[read[0].net] >> read[0].time & 1;
+        for (int p = 1; p < pins; p++)
+            known = with_pin(type, known, st->variable[read[p].net] >> read[p].time & 1);
+        put(st, n, st->time[k], known ^ (type & 1));
+    }
+    fill(st, h);
+}

@@ -1,0 +1,34 @@
+/* The step algorithm written by hand in C, to measure the library against, in two ways: as the library does it, and with every variable that a step reads looked up
+ * when the card is loaded, which is the least that a program can do that does one step after another. Nothing here is proved. */
+#ifndef STEPS_BY_HAND_H
+#define STEPS_BY_HAND_H
+
+#include "by_hand.h"
+
+enum { HAND_STEPS = 4096 };
+
+/* where a step's pin is read */
+struct hand_read {
+    uint16_t net;
+    uint8_t time;
+};
+
+struct hand_steps {
+    int steps;
+    uint64_t set[SIM_NETS + 1]; /* an open pin names place 256, whose set is {0} and whose variables are 0 */
+    uint64_t variable[SIM_NETS + 1], word[SIM_NETS];
+    uint16_t net[HAND_STEPS];
+    uint8_t time[HAND_STEPS];
+    struct hand_read read[HAND_STEPS][SIM_PINS];
+};
+
+/* The sets, the list and what its steps read, of a card that was read for the fields. */
+void hand_steps_load(struct hand_steps *st, const struct hand *h);
+
+/* A vector from the settled values `before`: the list is made, each step finds what it reads, and the histories are filled. They stand in `word`. */
+void hand_steps_vector(struct hand_steps *st, const struct hand *h, const uint8_t *before, const uint8_t *vector);
+
+/* The same with the list and all reads at hand. */
+void hand_steps_ready(struct hand_steps *st, const struct hand *h, const uint8_t *before, const uint8_t *vector);
+
+#endif
