@@ -13,7 +13,7 @@ use lib.ListN.{length, getD, List·getD-eq-default}
 use Rattle.lists.specs.Entries.{every}
 use Rattle.lists.specs.Places.{part, area}
 use Rattle.lists.proofs.Listed.{is-listed, listed-none, listed-more}
-use Rattle.lists.proofs.Places.{length-area, area-in, area-out}
+use Rattle.lists.proofs.Places.{turn-next, turn-fits, length-area, area-in, area-out}
 use Rattle.rule.specs.declared.Refusal.the-variants.{NotReady, NoRoom}
 use Rattle.rule.specs.declared.Answer.{Answer}
 use Rattle.rule.specs.declared.Answer.the-variants.{Done, Refused}
@@ -30,7 +30,7 @@ use Rattle.keeping.specs.Kept.{lastRoom, keptVector}
 use Rattle.keeping.proofs.Bytes.{room-at, part-bytes}
 use Rattle.making.specs.Made.{madeAgain}
 use Rattle.many.specs.Many.{manyRun, manyJudged, keptMany}
-use Rattle.many.proofs.Many.{turn-next, turn-fits, many-vector, many-length, many-asks, many-left, Left}
+use Rattle.many.proofs.Many.{many-vector, many-length, many-asks, many-left, Left}
 use Rattle.host.specs.declared.Move.the-variants.{Vector as ByFields}
 use Rattle.host.specs.Calls.{packed, operated, leftBy, hostMove, hostHistory}
 use Rattle.host.specs.Vectors.{manyDone, ManyShown, hostVectors}

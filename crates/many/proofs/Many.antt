@@ -3,7 +3,7 @@ use mathlib.Core.Path.{_≡_, refl, sym, ap, ap₂, _∙_, subst}
 use mathlib.Core.Bool.{Bool, true, false, cond}
 use mathlib.Core.List.{List}
 use Prim.Native.Nat.{ℕ, zero, suc, _+_, _-_, _*_, _/_, _%_, _<_, _≤_}
-use native.Mathlib.Nat.{suc-mul, mul-le-mul-right, le-div-iff-mul-le, div-lt-iff-lt-mul}
+use native.Mathlib.Nat.{le-div-iff-mul-le, div-lt-iff-lt-mul}
 use native.Mathlib.Omega.{arith}
 use lib.Dec.{eqb, leb}
 use lib.ListN.{length, getD}
@@ -14,7 +14,7 @@ use Rattle.lists.specs.Places.{part, area}
 use Rattle.lists.proofs.Tests.{every-at}
 use Rattle.lists.proofs.Order.{at-in}
 use Rattle.lists.proofs.Listed.{length-listed, out-listed}
-use Rattle.lists.proofs.Places.{length-area, part-listed}
+use Rattle.lists.proofs.Places.{turn-next, turn-fits, length-area, part-listed}
 use Rattle.rule.specs.declared.Refusal.the-variants.{NotReady, VectorLength, VectorByte, NoRoom}
 use Rattle.rule.specs.declared.Answer.the-variants.{Done, Refused}
 use Rattle.inputs.specs.Allowed.{byteLimit, Vector}
@@ -29,14 +29,6 @@ use Rattle.session.proofs.Moving.{words-move}
 use Rattle.session.proofs.Kept.{vector-good}
 use Rattle.session.proofs.Refusals.{vector-takes}
 use Rattle.many.specs.Many.{manyRun, manyJudged, keptAt, keptMany}
-
-pub turn-next : (j n : ℕ) → j * n + n ≡ (j + 1) * n
-turn-next j n = let e : j + 1 ≡ suc j = omega arith in sym (ap (λ k. k * n) e ∙ suc-mul j n)
-
-pub turn-fits : (j k n l : ℕ) → j < k → k * n ≤ l → j * n + n ≤ l
-turn-fits j k n l b h =
-    let more : (j + 1) * n ≤ k * n = mul-le-mul-right n (omega arith) in
-    omega (arith, more, turn-next j n, h)
 
 -- one vector more
 pub many-more : (s : Session) (vs : List ℕ) (n j : ℕ) (room : List ℕ)
