@@ -8,7 +8,7 @@ use lib.Bits.{bitAnd, bitOr}
 use lib.Dec.{leb, ltb}
 use lib.ListN.{getD, set}
 use borrow.Author.Tests.{ltb-true, leb-true}
-use Rattle.lists.specs.Entries.{from}
+use Rattle.lists.specs.Entries.{every, from}
 use Rattle.lists.specs.Listed.{listed, upto}
 use Rattle.lists.proofs.Fills.{put-more}
 use Rattle.lists.proofs.Tests.{every-at}
@@ -29,23 +29,28 @@ bit-chosen x y m t h l =
     go true = rw (and-true (bit x t), and-false (bit y t)) (or-false (bit x t))
     go false = rw (and-false (bit x t)) (and-true (bit y t))
 
+-- a test that every number below n passes
+pub every-below : (n : ℕ) (test : ℕ → Bool) → every test (from 0 n) ≡ true → (t : ℕ) → t < n → test t ≡ true
+every-below n test e t l = every-at test (from 0 n) e t (in-from 0 n t (omega arith) (omega arith))
+
 module _ (j m : ℕ) (fits : maskFits j m ≡ true) where
-  -- what the mask's test says of a column
+  -- what the mask's test says of a column: where m has a one there is a column j above it, elsewhere one j below it
   column-fits : (t : ℕ) → t < 64 → cond (bit m t) (ltb (t + j) 64) (leb j t) ≡ true
   unfolding maskFits
-  column-fits t l = every-at (λ t. cond (bit m t) (ltb (t + j) 64) (leb j t)) (from 0 64) fits t (in-from 0 64 t (omega arith) (omega arith))
+  column-fits = every-below 64 (λ t. cond (bit m t) (ltb (t + j) 64) (leb j t)) fits
 
   pub above-fits : (t : ℕ) → t < 64 → bit m t ≡ true → t + j < 64
   above-fits t l e = ltb-true (t + j) 64 (sym (ap (λ b. cond b (ltb (t + j) 64) (leb j t)) e) ∙ column-fits t l)
 
-  pub below-fits : (t : ℕ) → t < 64 → bit m t ≡ false → j ≤ t
+  below-fits : (t : ℕ) → t < 64 → bit m t ≡ false → j ≤ t
   below-fits t l e = leb-true j t (sym (ap (λ b. cond b (ltb (t + j) 64) (leb j t)) e) ∙ column-fits t l)
 
-  -- a word that is chosen of two, of which each has what it should where it is chosen
+  -- A word that is chosen of two, of which each has what it should where it is chosen
   module _ (ws : List ℕ) (k w : ℕ) (low : w < 2 ^ 64) where
     abbrev Chosen : ℕ → ℕ → Type 0
     Chosen x y = (t : ℕ) → t < 64 → bit w t ≡ cond (bit m t) (bit x t) (bit y t)
 
+    -- as word i, whose half is k and whose last digit is d
     row-made : (i d x y : ℕ) → i / 2 ≡ k → i % 2 ≡ d → Chosen x y → ((t : ℕ) → bit x t ≡ bit (getD ws k 0) (t + d * j))
         → ((t : ℕ) → t < 64 → j ≤ t → bit y t ≡ bit (getD ws (k + 32) 0) (t - (1 - d) * j)) → w ≡ takenAt (source j m) ws i
     unfolding source

@@ -9,14 +9,12 @@ use lib.ListN.{length, getD}
 use borrow.Author.Tests.{eqb-true}
 use Rattle.lists.specs.Entries.{every, from}
 use Rattle.lists.proofs.Bools.{and-both}
-use Rattle.lists.proofs.Tests.{every-at}
-use Rattle.lists.proofs.Joined.{in-from}
 use Rattle.lists.proofs.Listed.{length-listed, listed-at, listed-ext}
 use Rattle.word.specs.Word.{bit}
 use Rattle.word.proofs.Words.{bit-word, word-ext}
 use Rattle.turning.specs.Turned.{turned}
 use Rattle.turning.specs.Rounds.{Place, bitAt, takenAt, taken, source, maskFits}
-use Rattle.turning.proofs.Pairs.{above-fits}
+use Rattle.turning.proofs.Pairs.{every-below, above-fits}
 
 -- a round leaves 64 words
 pub taken-length : (f : Place → Place) (ws xs : List ℕ) → xs ≡ taken f ws → length xs ≡ 64
@@ -44,7 +42,7 @@ source-inside j m fits p (r, c) = go (bit m (p .column)) refl
     go true e = (omega arith, above (p .row % 2) (omega arith) (above-fits j m fits (p .column) c e))
     go false e = (omega arith, omega arith)
 
--- two rounds
+-- two rounds are one, from where the first takes what the second takes
 taken-twice : (f g : Place → Place) (a b c : List ℕ) → Inside g → b ≡ taken f a → c ≡ taken g b → c ≡ taken (λ p. f (g p)) a
 unfolding taken
 taken-twice f g a b c inside eb ec = ec ∙ ap (taken g) eb ∙ listed-ext (takenAt g (taken f a)) (takenAt (λ p. f (g p)) a) 64 (λ i r. word-ext 64 _ _ (same i r))
@@ -75,6 +73,7 @@ no2 = 0x3333333333333333
 abbrev no1 : ℕ
 no1 = 0x5555555555555555
 
+-- no round takes a bit from outside a word
 pub masks-fit : (maskFits 32 no32 ≡ true) × (maskFits 16 no16 ≡ true) × (maskFits 8 no8 ≡ true) × (maskFits 4 no4 ≡ true) × (maskFits 2 no2 ≡ true) × (maskFits 1 no1 ≡ true)
 unfolding maskFits bit
 masks-fit = (refl, refl, refl, refl, refl, refl)
@@ -97,10 +96,11 @@ origin-turned ws = listed-ext (takenAt origin ws) _ 64 (λ i r. word-ext 64 _ _ 
   where
     same : (i : ℕ) → i < 64 → (t : ℕ) → t < 64 → bitAt ws (origin (record { row = i; column = t })) ≡ bit (getD ws t 0) i
     same i r t l =
-        let row = every-at (λ i. every (isTurned i) (from 0 64)) (from 0 64) all-turned i (in-from 0 64 i (omega arith) (omega arith)) in
-        let h = and-both _ _ (every-at (isTurned i) (from 0 64) row t (in-from 0 64 t (omega arith) (omega arith))) in
+        let row = every-below 64 (λ i. every (isTurned i) (from 0 64)) all-turned i r in
+        let h = and-both _ _ (every-below 64 (isTurned i) row t l) in
         ap₂ (λ x y. bit (getD ws x 0) y) (eqb-true _ _ (h .0)) (eqb-true _ _ (h .1))
 
+-- six rounds turn the words
 pub rounds-turn : (a b c d e f g : List ℕ) → b ≡ taken (source 32 no32) a → c ≡ taken (source 16 no16) b → d ≡ taken (source 8 no8) c
     → e ≡ taken (source 4 no4) d → f ≡ taken (source 2 no2) e → g ≡ taken (source 1 no1) f → g ≡ turned a
 rounds-turn a b c d e f g e₁ e₂ e₃ e₄ e₅ e₆ =

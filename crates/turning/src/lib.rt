@@ -14,7 +14,7 @@ fn choose(x: u64, y: u64, m: u64) -> u64
     (x & m) | (y & !m)
 }
 
-// A round: words 2 k and 2 k + 1 of words k and k + 32, which exchange j of their columns wherever m has none.
+// A round: words 2 k and 2 k + 1 come of words k and k + 32. What the first has outside m, and what the second has inside it j columns below, change places.
 fn round(old: &[u64; 64], new: &mut [u64; 64], j: u32, m: u64)
     requires { ⌜ (j < 64) × (maskFits j m ≡ true) ⌝ }
     requires { ⌜ length (now new) ≡ 64 ⌝ }
@@ -35,11 +35,11 @@ pub fn turn(rows: &mut [u64; 64])
     requires { ⌜ length (now rows) ≡ 64 ⌝ }
     ensures { λ r. ⌜ now (rows .exit) ≡ turned (now (rows .entry)) ⌝ }
 {
-    let mut half = [0u64; 64];
-    round(rows, &mut half, 32, 0x0000_0000_ffff_ffff);
-    round(&half, rows, 16, 0x0000_ffff_0000_ffff);
-    round(rows, &mut half, 8, 0x00ff_00ff_00ff_00ff);
-    round(&half, rows, 4, 0x0f0f_0f0f_0f0f_0f0f);
-    round(rows, &mut half, 2, 0x3333_3333_3333_3333);
-    round(&half, rows, 1, 0x5555_5555_5555_5555);
+    let mut other = [0u64; 64];
+    round(rows, &mut other, 32, 0x0000_0000_ffff_ffff);
+    round(&other, rows, 16, 0x0000_ffff_0000_ffff);
+    round(rows, &mut other, 8, 0x00ff_00ff_00ff_00ff);
+    round(&other, rows, 4, 0x0f0f_0f0f_0f0f_0f0f);
+    round(rows, &mut other, 2, 0x3333_3333_3333_3333);
+    round(&other, rows, 1, 0x5555_5555_5555_5555);
 }
