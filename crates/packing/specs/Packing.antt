@@ -9,8 +9,8 @@ use Rattle.word.specs.Times.{greatest, zeroIn}
 use Rattle.variables.specs.Variables.{historyOf}
 
 -- "The variable for it takes the before value ahead of all steps": every variable of a net has the net's start, in every vector
-unfoldable pub startVars : List ℕ → List ℕ
-startVars starts = listed (λ p. getD starts (p / 64) 0) 16384
+unfoldable pub packVars : List ℕ → List ℕ
+packVars starts = listed (λ p. getD starts (p / 64) 0) 16384
 
 -- the variables of net n in vector i, as one word
 abbrev pub varsIn : List ℕ → ℕ → ℕ → ℕ

@@ -4,7 +4,7 @@ ghost use Prim.Native.Nat.{ℕ, _+_, _<_, _≤_};
 ghost use lib.ListN.{length};
 ghost use Rattle.lists.specs.Listed.{listed};
 ghost use Rattle.lists.specs.Places.{area};
-ghost use Rattle.packing.specs.Packing.{startVars, rowsOf, packHistories, vectorWords};
+ghost use Rattle.packing.specs.Packing.{packVars, rowsOf, packHistories, vectorWords};
 use word::PcSet;
 
 // One word in 64 places from a place on.
@@ -22,7 +22,7 @@ fn fill_net(vars: &mut [u64; 16384], at: usize, word: u64)
 // Every variable of a net has the net's start.
 pub fn fill<'a>(vars: &mut [u64; 16384], starts: &'a [u64; 256])
     requires { ⌜ length (now vars) ≡ 16384 ⌝ }
-    ensures { λ r. ⌜ now (vars .exit) ≡ startVars (now (starts .entry)) ⌝ }
+    ensures { λ r. ⌜ now (vars .exit) ≡ packVars (now (starts .entry)) ⌝ }
 {
     let mut n: usize = 0;
     while n < 256 {
