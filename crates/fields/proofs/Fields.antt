@@ -11,7 +11,7 @@ use lib.ListN.{length, getD, set, length-map, length-set}
 use lib.Seq.{getD-set-same, getD-set-other}
 use borrow.Author.Tests.{eq-eqb, ne-eqb, eqb-true}
 use Rattle.lists.specs.Listed.{listed}
-use Rattle.lists.proofs.Listed.{listed-none, listed-at, out-listed, is-listed, listed-ext, map-listed}
+use Rattle.lists.proofs.Listed.{listed-none, listed-at, out-listed, is-listed, map-listed}
 use Rattle.word.specs.Word.{bit, isOne, differ, wordOf, movedUp}
 use Rattle.word.proofs.Words.{is-word}
 use Rattle.gate.specs.Gate.{inverts, gate as gateFn}
@@ -163,23 +163,20 @@ module _ (kinds words : List ℕ) (long : length words ≡ 256) (f : ℕ → ℕ
       ∙ put-out j m (omega arith) l e
 
   -- with the words of all inputs put, nothing else moves
-  pub puts : ℕ → ℕ
-  puts n = cond (isInputKind (getD kinds n 0)) (f (rank kinds n)) (getD words n 0)
-
-  pub inputs-put : (k : ℕ) → k ≡ rank kinds 256 → netsPut (inputNets kinds 256) f k words ≡ listed puts 256
-  unfolding puts
-  inputs-put k size = is-listed puts 256 0 (after k) (length-put nets f k words ∙ long) (λ n l. at n l (ℕ-discrete (getD kinds n 0) 1))
+  pub input-put : (k n : ℕ) → k ≡ rank kinds 256 → n < 256 → getD (netsPut (inputNets kinds 256) f k words) n 0 ≡ cond (isInputKind (getD kinds n 0)) (f (rank kinds n)) (getD words n 0)
+  input-put k n size l = go (ℕ-discrete (getD kinds n 0) 1)
     where
-      at : (n : ℕ) → n < 256 → Dec (getD kinds n 0 ≡ 1) → getD (after k) n 0 ≡ cond (isInputKind (getD kinds n 0)) (f (rank kinds n)) (getD words n 0)
-      at n l (yes e) = rw (eq-eqb (getD kinds n 0) 1 e) (put-in k n (omega (arith, size)) l e (omega (arith, size, rank-below kinds n 256 l e)))
-      at n l (no e) = rw (ne-eqb (getD kinds n 0) 1 e) (put-out k n (omega (arith, size)) l e)
+      go : Dec (getD kinds n 0 ≡ 1) → getD (after k) n 0 ≡ cond (isInputKind (getD kinds n 0)) (f (rank kinds n)) (getD words n 0)
+      go (yes e) = rw (eq-eqb (getD kinds n 0) 1 e) (put-in k n (omega (arith, size)) l e (omega (arith, size, rank-below kinds n 256 l e)))
+      go (no e) = rw (ne-eqb (getD kinds n 0) 1 e) (put-out k n (omega (arith, size)) l e)
 
 -- with all bytes of a vector, all inputs have their values
 pub nets-put : (kinds v words : List ℕ) → length words ≡ 256 → length v ≡ rank kinds 256 → netsPut (inputNets kinds 256) (byteWord v) (length v) words ≡ inputsPut kinds v words
-unfolding inputsPut puts
+unfolding inputsPut
 nets-put kinds v words long size =
-    inputs-put kinds words long (byteWord v) (length v) size
-    ∙ listed-ext (puts kinds words long (byteWord v)) (λ n. cond (isInputKind (getD kinds n 0)) (wordOf 64 (λ t. given kinds v n)) (getD words n 0)) 256 (λ n l. at n (ℕ-discrete (getD kinds n 0) 1))
+    is-listed (λ n. cond (isInputKind (getD kinds n 0)) (wordOf 64 (λ t. given kinds v n)) (getD words n 0)) 256 0 (netsPut (inputNets kinds 256) (byteWord v) (length v) words)
+    (length-put (inputNets kinds 256) (byteWord v) (length v) words ∙ long)
+    (λ n l. input-put kinds words long (byteWord v) (length v) n size l ∙ at n (ℕ-discrete (getD kinds n 0) 1))
   where
     at : (n : ℕ) → Dec (getD kinds n 0 ≡ 1)
         → cond (isInputKind (getD kinds n 0)) (byteWord v (rank kinds n)) (getD words n 0) ≡ cond (isInputKind (getD kinds n 0)) (wordOf 64 (λ t. given kinds v n)) (getD words n 0)
