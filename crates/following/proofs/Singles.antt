@@ -29,7 +29,7 @@ use Rattle.history.proofs.Histories.{Roomy, history-0, history-shows}
 use Rattle.keeping.specs.Kept.{lastRoom, keptVector}
 use Rattle.keeping.proofs.Bytes.{room-at, part-bytes}
 use Rattle.making.specs.Made.{madeAgain}
-use Rattle.many.specs.Many.{manyRun, manyJudged, keptMany}
+use Rattle.many.specs.Many.{manyBy, manyRun, manyJudged, keptMany}
 use Rattle.many.proofs.Many.{many-vector, many-length, many-asks, many-left, Left}
 use Rattle.host.specs.declared.Move.the-variants.{Vector as ByFields}
 use Rattle.host.specs.Calls.{packed, operated, leftBy, hostMove, hostHistory}
@@ -167,7 +167,7 @@ module _ (b : List ℕ) (s : Session) (h : Holding b s) (vs room : List ℕ) (ok
 
   -- each call holds the session that the vectors so far leave, and is done
   each-holds : (k : ℕ) → k * n ≤ length vs → Holding (keptEach b vs n k) (manyRun s vs n k room .session) × (bytesAfter b (eachVector vs n k) ≡ keptEach b vs n k)
-  unfolding manyRun eachVector bytesAfter keptEach
+  unfolding manyBy eachVector bytesAfter keptEach
   each-holds zero l = (h, ap (bytesAfter b) (listed-none (λ j. record { how = ByFields; given = part vs (j * n) n })))
   each-holds (suc k) l =
       let e : k + 1 ≡ suc k = omega arith in
@@ -230,7 +230,7 @@ session-append s (x ∷ xs) ys = session-append (operated (x .how) s (x .given) 
 
 -- the session that many vectors leave is the one that the library leaves, called for each of them
 pub run-session : (s : Session) (vs room : List ℕ) (n k : ℕ) → manyRun s vs n k room .session ≡ sessionAfter s (eachVector vs n k)
-unfolding manyRun eachVector sessionAfter
+unfolding manyBy eachVector sessionAfter
 run-session s vs room n zero = sym (ap (sessionAfter s) (listed-none (λ j. record { how = ByFields; given = part vs (j * n) n })))
 run-session s vs room n (suc k) =
     let e : k + 1 ≡ suc k = omega arith in
@@ -244,7 +244,7 @@ module _ (s : Session) (vs : List ℕ) (n : ℕ) (room : List ℕ) where
   -- the words of vector j stay where they were put, whatever vectors come after it
   pub run-words : (k : ℕ) → k * s .nets ≤ length room → (j m : ℕ) → j < k → m < s .nets
       → getD (manyRun s vs n k room .words) (j * s .nets + m) 0 ≡ getD (manyRun s vs n (suc j) room .session .words) m 0
-  unfolding manyRun
+  unfolding manyBy
   run-words zero f j m l u = absurd (omega arith)
   run-words (suc k) f j m l u = go (λ b. run-words k (omega (arith, now)) j m b u) (decLt j k)
     where
@@ -273,7 +273,7 @@ module _ (s : Session) (vs : List ℕ) (n : ℕ) (room : List ℕ) where
 
   -- the room past the words of all vectors stays
   pub run-past : (k i : ℕ) → k * s .nets ≤ i → getD (manyRun s vs n k room .words) i 0 ≡ getD room i 0
-  unfolding manyRun
+  unfolding manyBy
   run-past zero i f = refl
   run-past (suc k) i f = go (run-past k i (omega (arith, past))) (decLt i (length room))
     where

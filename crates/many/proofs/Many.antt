@@ -28,7 +28,7 @@ use Rattle.session.proofs.Held.{inputs-ranked}
 use Rattle.session.proofs.Moving.{words-move}
 use Rattle.session.proofs.Kept.{vector-good}
 use Rattle.session.proofs.Refusals.{vector-takes}
-use Rattle.many.specs.Many.{manyRun, manyJudged, keptAt, keptMany}
+use Rattle.many.specs.Many.{manyBy, manyRun, manyJudged, keptAt, keptMany}
 
 -- one vector more
 pub many-more : (s : Session) (vs : List ℕ) (n j : ℕ) (room : List ℕ)
@@ -36,7 +36,7 @@ pub many-more : (s : Session) (vs : List ℕ) (n j : ℕ) (room : List ℕ)
     ≡ (let ran = manyRun s vs n j room in
     let next = vectorOf (ran .session) (part vs (j * n) n) .session in
     record { session = next; words = area (ran .words) (j * s .nets) (j * s .nets + s .nets) (next .words) })
-unfolding manyRun
+unfolding manyBy
 many-more s vs n j room = let e : j + 1 ≡ suc j = omega arith in ap (λ k. manyRun s vs n k room) e ∙ step
   where
     step : manyRun s vs n (suc j) room
@@ -46,7 +46,7 @@ many-more s vs n j room = let e : j + 1 ≡ suc j = omega arith in ap (λ k. man
     step = refl
 
 pub many-length : (s : Session) (vs : List ℕ) (n k : ℕ) (room : List ℕ) → length (manyRun s vs n k room .words) ≡ length room
-unfolding manyRun
+unfolding manyBy
 many-length s vs n zero room = refl
 many-length s vs n (suc k) room = length-area _ _ _ _ ∙ many-length s vs n k room
 
@@ -93,7 +93,7 @@ module _ (s : Session) (g : Good s) (r : s .rested ≡ true) (vs room : List ℕ
       }
 
   pub many-left : (j : ℕ) → j * s .inputs ≤ length vs → Left (left j)
-  unfolding manyRun
+  unfolding manyBy
   many-left zero l = record { good = g; same = ap (λ b. resting s b (s .before) (s .words)) r }
   many-left (suc j) l =
       let more = turn-next j (s .inputs) in

@@ -16,7 +16,7 @@ use Rattle.fields.specs.Fields.{advanced}
 use Rattle.card.specs.Held.{HasCard}
 use Rattle.card.proofs.Kept.{card-wires, card-fitting}
 use Rattle.session.proofs.Held.{gates-fit, gates-once, inputs-ranked}
-use Rattle.many.specs.Many.{manyRun}
+use Rattle.many.specs.Many.{manyBy, manyRun}
 use Rattle.many.proofs.Many.{many-more, many-length, many-vector, left-long, next-words}
 use Rattle.many.proofs.run_many.Statement.{statement}
 use Rattle.many.proofs.run_many.Tie as tie
@@ -36,7 +36,7 @@ input-nets-requires : tie.Need-input-nets-requires Inv-loop μ-loop
 input-nets-requires c κs = search needs
 
 loop-holds : tie.Need-loop-holds Inv-loop μ-loop
-unfolding manyRun
+unfolding manyBy
 loop-holds c = let s = c .before .before .before .before .before .before .args .t1 in (omega arith, sym (zero-mul (s .inputs)), sym (zero-mul (s .nets)), refl, refl)
 
 -- the bytes of the next vector, and the room for its words, are there
