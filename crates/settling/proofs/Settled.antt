@@ -71,21 +71,24 @@ same-along : (start : List ℕ) {types types′ counts counts′ places places�
     → settledAlong types counts places start order ≡ settledAlong types′ counts′ places′ start order′
 same-along start a b d e = rw (a, b, d, e)
 
+-- what vector i of a pack of m gives net k; past the last of them nothing
+unfoldable pub packGives : List ℕ → ℕ → List ℕ → ℕ → ℕ → ℕ → Bool
+packGives kinds n v m i k = cond (isInputKind (getD kinds k 0)) (cond (ltb i m) (isOne (getD v (i * n + rank kinds k) 0)) false) false
+
 -- A pack on a session whose nets ended in some values
 module _ (s : Session) (h : HasCard s) (r : Rested s) (v : List ℕ) (m : ℕ) where
   abbrev c : List Net
   c = cardOf s
 
-  -- what vector i gives net k; past the last of them nothing
-  unfoldable pub packGives : ℕ → ℕ → Bool
-  packGives i k = cond (isInputKind (getD (s .kinds) k 0)) (cond (ltb i m) (isOne (getD v (i * s .inputs + rank (s .kinds) k) 0)) false) false
+  abbrev gives : ℕ → ℕ → Bool
+  gives = packGives (s .kinds) (s .inputs) v m
 
   abbrev state : ℕ → ℕ → Bool
-  state i = settled c (packGives i)
+  state i = settled c (gives i)
 
   open-settled : (i : ℕ) → state i openPin ≡ openValue
   unfolding settled
-  open-settled i = constant-is c (λ m. false) (packGives i) openPin 63 openValue (net-open c)
+  open-settled i = constant-is c (λ m. false) (gives i) openPin 63 openValue (net-open c)
 
   module _ (ended : List Bool) (are : ended ≡ listed (ends s) 256) where
     abbrev flat : List ℕ
@@ -115,8 +118,8 @@ module _ (s : Session) (h : HasCard s) (r : Rested s) (v : List ℕ) (m : ℕ) w
             → cond (isInput w) (packedByte v (s .inputs) m (rank (s .kinds) k)) (wordOf 64 (λ i. ends s k)) ≡ wordOf 64 (λ i. state i k)
         by-net l input q x =
             word-ext 64 _ _
-            (λ i b. sym (input-is c (λ m. false) (packGives i) k 63 q ∙ ap (λ y. cond y (cond (ltb i m) (isOne (getD v (i * s .inputs + rank (s .kinds) k) 0)) false) false) (kind input q)))
-        by-net l (constant y) q x = word-ext 64 _ _ (λ i b. constant-ends s h r k y l q ∙ sym (constant-is c (λ m. false) (packGives i) k 63 y q))
+            (λ i b. sym (input-is c (λ m. false) (gives i) k 63 q ∙ ap (λ y. cond y (cond (ltb i m) (isOne (getD v (i * s .inputs + rank (s .kinds) k) 0)) false) false) (kind input q)))
+        by-net l (constant y) q x = word-ext 64 _ _ (λ i b. constant-ends s h r k y l q ∙ sym (constant-is c (λ m. false) (gives i) k 63 y q))
         by-net l (gate ty ps) q x = absurd (false≢true x)
 
         net-or-past : ¬ (k ≡ openPin) → Dec (k < 256) → getD start k 0 ≡ wordOf 64 (λ i. state i k)
@@ -127,14 +130,14 @@ module _ (s : Session) (h : HasCard s) (r : Rested s) (v : List ℕ) (m : ℕ) w
             ∙ zero-word ∙ word-ext 64 (λ t. false) (λ i. state i k) (λ i b. sym (past i q))
           where
             past : (i : ℕ) → ¬ (k ≡ openPin) → state i k ≡ false
-            past i q = let few = card-fits s h .fits .few in past-zero c (λ m. false) (packGives i) k 63 (omega arith) q
+            past i q = let few = card-fits s h .fits .few in past-zero c (λ m. false) (gives i) k 63 (omega arith) q
 
         open-or-not : Dec (k ≡ openPin) → pinWord start k ≡ wordOf 64 (λ i. state i k)
         open-or-not (yes q) = rw q (at-open (wordOf 64 (λ t. openValue)) (λ m. getD start m 0) ∙ word-ext 64 (λ t. openValue) (λ i. state i openPin) (λ i b. sym (open-settled i)))
         open-or-not (no q) = at-net (wordOf 64 (λ t. openValue)) (λ m. getD start m 0) k q ∙ net-or-past q (decLt k 256)
 
     pub pack-settles : settledPack (inputNets (s .kinds) 256) (s .types) (s .counts) (s .places) (listed (λ i. getD (s .order) i 0) (s .gates)) ended v (s .inputs) m
-        ≡ listed (λ k. wordOf 64 (λ i. settled c (packGives i) k)) 256
+        ≡ listed (λ k. wordOf 64 (λ i. settled c (packGives (s .kinds) (s .inputs) v m i) k)) 256
     pack-settles =
         same-along start (types-are s h) (counts-are s h) (places-are s h) (order-back s h)
-        ∙ pass-settles c (card-fits s h) (h .accepted .free) state (λ i. settled-rests s h (packGives i) .calm) open-settled start start-still
+        ∙ pass-settles c (card-fits s h) (h .accepted .free) state (λ i. settled-rests s h (gives i) .calm) open-settled start start-still
