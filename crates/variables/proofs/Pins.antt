@@ -25,7 +25,7 @@ largest-in : (f g : ℕ → Bool) (t u : ℕ) → 0 < t → ((i : ℕ) → f i �
 largest-in f g zero u l h e = absurd (omega arith)
 largest-in f g (suc t) u l h e = e ∙ greatest-cong f (zeroIn g) (suc t) 64 (λ i b. h i) ∙ greatest-zero-any g t 64
 
--- lies below t
+-- it lies below t
 pub largest-low : (f g : ℕ → Bool) (t u : ℕ) → 0 < t → ((i : ℕ) → f i ≡ zeroIn g i) → u ≡ greatest f t 64 → u < t
 largest-low f g t u l h e = omega (arith, largest-in f g t u l h e, greatest-lt (zeroIn g) t 0 l)
 
