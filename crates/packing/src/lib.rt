@@ -1,9 +1,11 @@
 // The variables of up to 64 vectors ahead of all steps, and their histories.
 ghost use mathlib.Core.Path.{_≡_};
-ghost use Prim.Native.Nat.{ℕ, _+_, _<_, _≤_};
-ghost use lib.ListN.{length};
+ghost use mathlib.Core.Bool.{cond};
+ghost use Prim.Native.Nat.{_+_, _<_, _≤_};
+ghost use lib.ListN.{length, getD};
 ghost use Rattle.lists.specs.Listed.{listed};
 ghost use Rattle.lists.specs.Places.{area};
+ghost use Rattle.word.specs.Word.{bit};
 ghost use Rattle.packing.specs.Packing.{packVars, rowsOf, packHistories, vectorWords};
 use word::PcSet;
 
@@ -31,20 +33,30 @@ pub fn fill<'a>(vars: &mut [u64; 16384], starts: &'a [u64; 256])
     }
 }
 
+// The word of time t, from a place on, where t is in the set; else the one known.
+fn held<'a>(vars: &'a [u64; 16384], set: PcSet, at: usize, known: u64, t: u32) -> u64
+    requires { ⌜ at + t < 16384 ⌝ }
+    ensures { λ r. ⌜ r ≡ cond (bit (set .word) t) (getD (now (vars .entry)) (at + t) 0) known ⌝ }
+{
+    if set.has(t) {
+        vars[at + t as usize]
+    } else {
+        known
+    }
+}
+
 // At each time the variable of net n's largest element not above it.
 fn rows_of<'a>(vars: &'a [u64; 16384], set: u64, n: usize) -> [u64; 64]
     requires { ⌜ n < 256 ⌝ }
     ensures { λ r. ⌜ r ≡ rowsOf set (now (vars .entry)) n ⌝ }
 {
-    let s = PcSet { word: set };
-    let mut known = vars[n * 64];
+    let at = n * 64;
+    let mut known = vars[at];
     let mut rows = [0u64; 64];
     rows[0] = known;
     let mut t: u32 = 1;
     while t < 64 {
-        if s.has(t) {
-            known = vars[n * 64 + t as usize];
-        }
+        known = held(vars, PcSet { word: set }, at, known, t);
         rows[t as usize] = known;
         t += 1;
     }

@@ -1,0 +1,83 @@
+-- `packing::histories` meets its contract. The loop's invariant: the places of the first n nets are filled, the rest is as it was. The measure is
+-- what is left of 256. Assumes nothing.
+use mathlib.Core.Path.{_≡_}
+use Prim.Native.Nat.{ℕ, _-_, _*_, _≤_}
+use native.Mathlib.Omega.{arith}
+use lib.ListN.{getD}
+use borrow.Author.Needs.{needs}
+use Rattle.lists.specs.Listed.{listed, upto}
+use Rattle.lists.proofs.Fills.{put-none}
+use Rattle.packing.specs.Packing.{packHistories}
+use Rattle.packing.proofs.Areas.{net-next, net-all, net-length}
+use Rattle.packing.proofs.Packing.{historyAt, rows-length, rows-placed}
+use Rattle.packing.proofs.histories.Statement.{statement}
+use Rattle.packing.proofs.histories.Tie as tie
+
+abbrev Inv-loop : tie.InvT-loop
+Inv-loop out₀ vars sets n₀ out n = (n ≤ 256) × (out ≡ listed (upto (historyAt sets vars) (λ (p : ℕ). getD out₀ p 0) (n * 64)) 16384)
+
+abbrev μ-loop : tie.MeasureT-loop
+μ-loop out₀ vars sets n₀ out n = 256 - n
+
+loop-holds : tie.Need-loop-holds Inv-loop μ-loop
+loop-holds c = (omega arith, put-none _ 0 16384 (c .args .out .now) (c .pre))
+
+mul-rows-of : tie.Need-mul-rows-of Inv-loop μ-loop
+mul-rows-of c = search needs
+
+element-copy-out-rows-of : tie.Need-element-copy-out-rows-of Inv-loop μ-loop
+element-copy-out-rows-of c = search needs
+
+rows-of-requires : tie.Need-rows-of-requires Inv-loop μ-loop
+rows-of-requires c κs = search needs
+
+turn-requires : tie.Need-turn-requires Inv-loop μ-loop
+turn-requires c κs = rows-length _ _ _ _ (c .before .rows-of .ensures)
+
+mul-put-rows : tie.Need-mul-put-rows Inv-loop μ-loop
+mul-put-rows c = search needs
+
+put-rows-requires : tie.Need-put-rows-requires Inv-loop μ-loop
+put-rows-requires c κs =
+    let l = c .before .before .before .before .before .before .before .loop in
+    (omega (arith, c .before .before .before .before .before .before .loop-test .taken), net-length _ _ 16384 (l .n * 64) (l .out) (l .inv .1))
+
+add-n : tie.Need-add-n Inv-loop μ-loop
+add-n c = search needs
+
+loop-less : tie.Need-loop-less Inv-loop μ-loop
+loop-less c = search needs
+
+loop-again : tie.Need-loop-again Inv-loop μ-loop
+loop-again c =
+    let turned = c .before .before .before in
+    let made = turned .before .before in
+    let test = made .before .before in
+    let l = test .before .loop in
+    let a = test .before .before .args in (
+      omega (arith, test .loop-test .taken),
+      net-next _ _ 16384 (l .n) _ (l .out) _ (omega (arith, test .loop-test .taken))
+          (rows-placed (a .sets .now) (a .vars .now) (l .n) _ _ (made .rows-of .ensures) (turned .turn .ensures)) (l .inv .1) (c .put-rows .ensures),
+    )
+
+returns : tie.Need-returns Inv-loop μ-loop
+unfolding packHistories
+returns c = let l = c .before .loop in net-all _ _ 16384 (l .n) (l .out) (omega (arith, l .inv .0, c .loop-test .left)) (l .inv .1)
+
+pub histories-spec : {M : Type 1} → statement M
+histories-spec =
+    tie.close
+    (tie.spec
+    Inv-loop
+    μ-loop
+    loop-holds
+    mul-rows-of
+    element-copy-out-rows-of
+    rows-of-requires
+    turn-requires
+    mul-put-rows
+    put-rows-requires
+    add-n
+    loop-less
+    loop-again
+    returns)
