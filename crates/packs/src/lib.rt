@@ -96,13 +96,7 @@ pub fn run_packs(s: Session, vectors: &[u8], k: usize, room: &mut [u64]) -> usiz
     let inputs = inputs::input_nets(&s.kinds);
     let mut step_nets = [0u16; 4096];
     let mut step_times = [0u8; 4096];
-    let total = listing::put_list(
-        &mut step_nets,
-        &mut step_times,
-        &s.sets,
-        &s.order,
-        s.gates,
-    );
+    let total = listing::put_list(&mut step_nets, &mut step_times, &s.sets, &s.order, s.gates);
     let mut vars = [0u64; 16384];
     let mut hist = [0u64; 16384];
     let mut ended = fields::tops(&s.words);
