@@ -18,6 +18,7 @@ use Rattle.word.specs.Word.{bit, isOne, wordOf, movedUp}
 use Rattle.word.proofs.Words.{bit-word}
 use Rattle.rule.specs.Net.{Net, input, constant, gate, netAt}
 use Rattle.rule.specs.Steps.{stepList}
+use Rattle.rule.specs.declared.Answer.the-variants.{Done}
 use Rattle.rule.proofs.StepLists.{list-only}
 use Rattle.rule.proofs.Values.{input-is}
 use Rattle.wiring.proofs.Layouts.{kind-past}
@@ -42,7 +43,8 @@ use Rattle.variables.specs.Variables.{historyOf, historiesFrom}
 use Rattle.listing.proofs.Cards.{step-low}
 use Rattle.steps.specs.Runs.{ran}
 use Rattle.steps.specs.Vector.{startVars, ranAlong, ranSession, stepsVectorOf}
-use Rattle.steps.proofs.Engines.{steps-rule, engines-equal}
+use Rattle.steps.proofs.Vectors.{steps-takes}
+use Rattle.steps.proofs.Engines.{run-count, steps-rule, engines-equal}
 use Rattle.packing.specs.Packing.{packVars, varsIn, packHistories, vectorWords}
 use Rattle.packing.proofs.Packing.{vars-length, vars-in, vector-words}
 use Rattle.lanes.specs.Lanes.{laneOf, lanesRan}
@@ -50,7 +52,7 @@ use Rattle.lanes.proofs.Lanes.{lane-at}
 use Rattle.lanes.proofs.Runs.{lane-ran}
 use Rattle.many.specs.Many.{manyBy, manyRun}
 use Rattle.many.proofs.Many.{many-more, many-vector, many-left, Left}
-use Rattle.packs.specs.Packs.{manySteps, packWords, packRan, packHist, packEnds, vectorsPut}
+use Rattle.packs.specs.Packs.{manySteps, stepsEach, packWords, packRan, packHist, packEnds, vectorsPut}
 
 -- a net that is an input by its kind
 input-net : (w : Net) → isInput w ≡ true → w ≡ input
@@ -145,6 +147,17 @@ module _ (s : Session) (g : Good s) (r : s .rested ≡ true) (vs room : List ℕ
     words-next =
         sym (ap (λ x. historiesFrom (x .sets) (ran (x .types) (x .counts) (x .places) (x .sets) (startVars z (new j)) (stepList (cardOf x)) .words)) (here .same))
         ∙ ap (λ x. x .words) (steps-rule z (here .good) rested (new j)) ∙ sym (ap (λ x. x .words) next-is)
+
+  -- each vector by steps is done, with the same count
+  pub each-counts : (k j : ℕ) → j < k → k * s .inputs ≤ length vs → stepsVectorOf (left j) (bytes j) .answer ≡ Done (stepsEach s k)
+  unfolding stepsEach cardOf
+  each-counts zero j l b = absurd (omega arith)
+  each-counts (suc k) j l b =
+      let there = turn-fits j (suc k) (s .inputs) (length vs) l b in
+      let here = is-left j (omega (arith, there)) in
+      let w : Vector (left j .inputs) (bytes j) = subst (λ x. Vector (x .inputs) (bytes j)) (sym (here .same)) (many-vector vs (s .inputs) j fits there) in
+      ap (λ x. x .answer) (steps-takes (left j) (bytes j) (ap (λ x. x .rested) (here .same)) w)
+      ∙ ap Done (run-count (left j) (given (left j .kinds) (bytes j)) (stepList (cardOf (left j))) ∙ ap (λ x. length (stepList (cardOf x))) (here .same))
 
   -- A pack of m vectors, the first of them number `done`
   module _ (done m : ℕ) (few : m ≤ 64) (there : (done + m) * s .inputs ≤ length vs) (ended : List Bool) (are : ended ≡ listed (ends (left done)) 256) (v : List ℕ)
