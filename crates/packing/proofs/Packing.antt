@@ -13,7 +13,7 @@ use Rattle.word.proofs.Sets.{greatest-lt}
 use Rattle.turning.specs.Turned.{turned}
 use Rattle.variables.specs.Variables.{historyOf}
 use Rattle.packing.specs.Packing.{packVars, varsIn, rowsOf, packHistories, vectorWords}
-use Rattle.packing.proofs.Rows.{known}
+use Rattle.packing.proofs.Rows.{known, known-flat}
 
 -- place 64 n + t is one of net n, and its number there is t
 place-net : (n t : ℕ) → t < 64 → (n * 64 + t) / 64 ≡ n
@@ -51,13 +51,19 @@ module _ (starts : List ℕ) where
 -- Histories
 
 module _ (set : ℕ) (vars : List ℕ) (n : ℕ) where
-  pub rows-length : (rows : List ℕ) → rows ≡ rowsOf set vars n → length rows ≡ 64
+  row-at : (t : ℕ) → t < 64 → getD (rowsOf set vars n) t 0 ≡ known set vars n (t + 1)
   unfolding rowsOf
-  rows-length rows e = ap length e ∙ length-listed (λ t. known set vars n (t + 1)) 64
+  row-at t b = listed-at (λ t. known set vars n (t + 1)) 64 t 0 b
+
+  -- rows that are all one word, turned
+  pub flat-turned : set < 2 → (words : List ℕ) → words ≡ listed (λ i. wordOf 64 (λ t. bit (getD vars (n * 64) 0) i)) 64 → words ≡ turned (rowsOf set vars n)
+  unfolding turned
+  flat-turned l words e =
+      e ∙ listed-ext _ _ 64 (λ i a. word-ext 64 _ _ (λ t b. ap (λ w. bit w i) (sym (row-at t b ∙ known-flat set vars n l t))))
 
   -- 64 rows, turned, are the histories of 64 vectors
   pub rows-turned : (i : ℕ) → i < 64 → getD (turned (rowsOf set vars n)) i 0 ≡ historyOf set (varsIn vars n i)
-  unfolding turned rowsOf historyOf
+  unfolding turned historyOf
   rows-turned i l = listed-at (λ i. wordOf 64 (λ t. bit (getD (rowsOf set vars n) t 0) i)) 64 i 0 l ∙ word-ext 64 _ _ same
     where
       last : ℕ → ℕ
@@ -68,7 +74,7 @@ module _ (set : ℕ) (vars : List ℕ) (n : ℕ) where
 
       same : (t : ℕ) → t < 64 → bit (getD (rowsOf set vars n) t 0) i ≡ bit (varsIn vars n i) (last t)
       same t b =
-          ap (λ w. bit w i) (listed-at (λ t. known set vars n (t + 1)) 64 t 0 b)
+          ap (λ w. bit w i) (row-at t b)
           ∙ sym (bit-word 64 (λ t. bit (getD vars (n * 64 + t) 0) i) (last t) (low t b))
 
 module _ (sets vars : List ℕ) where
@@ -80,10 +86,9 @@ module _ (sets vars : List ℕ) where
   place-history n i l = ap₂ (λ k j. historyOf (getD sets k 0) (varsIn vars k j)) (place-net n i l) (place-rest n i l)
 
   -- the rows of a net, turned, are what stands at its places
-  pub rows-placed : (n : ℕ) (rows new : List ℕ) → rows ≡ rowsOf (getD sets n 0) vars n → new ≡ turned rows → (i : ℕ) → i < 64
-      → getD new i 0 ≡ historyAt (n * 64 + i)
-  rows-placed n rows new e h i l =
-      ap (λ x. getD x i 0) (h ∙ ap turned e) ∙ rows-turned (getD sets n 0) vars n i l ∙ sym (place-history n i l)
+  pub rows-placed : (n : ℕ) (words : List ℕ) → words ≡ turned (rowsOf (getD sets n 0) vars n) → (i : ℕ) → i < 64
+      → getD words i 0 ≡ historyAt (n * 64 + i)
+  rows-placed n words e i l = ap (λ x. getD x i 0) e ∙ rows-turned (getD sets n 0) vars n i l ∙ sym (place-history n i l)
 
   pub histories-length : length (packHistories sets vars) ≡ 16384
   unfolding packHistories

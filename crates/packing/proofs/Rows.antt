@@ -9,6 +9,8 @@ use native.Mathlib.Omega.{arith}
 use lib.ListN.{getD}
 use Rattle.word.specs.Word.{bit}
 use Rattle.word.specs.Times.{greatest, zeroIn}
+use Rattle.word.proofs.Bits.{bit-high}
+use Rattle.word.proofs.Sets.{greatest-is}
 
 module _ (set : ℕ) (vars : List ℕ) (n : ℕ) where
   -- what is known ahead of time t: the variable of the largest element below it
@@ -29,3 +31,12 @@ module _ (set : ℕ) (vars : List ℕ) (n : ℕ) where
           → cond b (getD vars (n * 64 + suc t) 0) (known (suc t)) ≡ getD vars (n * 64 + cond b (suc t) (greatest (zeroIn (bit set)) (suc t) 0)) 0
       go true = refl
       go false = refl
+
+  -- with no element above 0 it is the first variable at every time
+  pub known-flat : set < 2 → (t : ℕ) → known (t + 1) ≡ getD vars (n * 64) 0
+  unfolding greatest
+  known-flat l t = ap (λ s. getD vars (n * 64 + s) 0) (greatest-is (zeroIn (bit set)) (t + 1) 0 0 (omega arith) refl above) ∙ sym known-first
+    where
+      above : (s : ℕ) → 0 < s → s < t + 1 → zeroIn (bit set) s ≡ false
+      above zero h b = absurd (omega arith)
+      above (suc s) h b = bit-high 1 set (suc s) l (omega arith)

@@ -5,7 +5,8 @@ ghost use Prim.Native.Nat.{_+_, _<_, _≤_};
 ghost use lib.ListN.{length, getD};
 ghost use Rattle.lists.specs.Listed.{listed};
 ghost use Rattle.lists.specs.Places.{area};
-ghost use Rattle.word.specs.Word.{bit};
+ghost use Rattle.word.specs.Word.{bit, wordOf};
+ghost use Rattle.turning.specs.Turned.{turned};
 ghost use Rattle.packing.specs.Packing.{packVars, rowsOf, packHistories, vectorWords};
 use word::PcSet;
 
@@ -63,6 +64,33 @@ fn rows_of<'a>(vars: &'a [u64; 16384], set: u64, n: usize) -> [u64; 64]
     rows
 }
 
+// 64 words: all bits of word i are bit i of the given one.
+fn flat(word: u64) -> [u64; 64]
+    ensures { λ r. ⌜ r ≡ listed (λ i. wordOf 64 (λ t. bit word i)) 64 ⌝ }
+{
+    let mut words = [0u64; 64];
+    let mut i: u32 = 0;
+    while i < 64 {
+        words[i as usize] = word::spread(PcSet { word }.has(i));
+        i += 1;
+    }
+    words
+}
+
+// The histories of net n, a word a vector. A net with no element above 0 has one variable.
+fn words_of<'a>(vars: &'a [u64; 16384], set: u64, n: usize) -> [u64; 64]
+    requires { ⌜ n < 256 ⌝ }
+    ensures { λ r. ⌜ r ≡ turned (rowsOf set (now (vars .entry)) n) ⌝ }
+{
+    if set <= 1 {
+        flat(vars[n * 64])
+    } else {
+        let mut rows = rows_of(vars, set, n);
+        turning::turn(&mut rows);
+        rows
+    }
+}
+
 // 64 words in 64 places from a place on.
 fn put_rows<'a>(out: &mut [u64; 16384], at: usize, rows: &'a [u64; 64])
     requires { ⌜ (at + 64 ≤ 16384) × (length (now out) ≡ 16384) ⌝ }
@@ -82,9 +110,8 @@ pub fn histories<'a>(out: &mut [u64; 16384], vars: &'a [u64; 16384], sets: &'a [
 {
     let mut n: usize = 0;
     while n < 256 {
-        let mut rows = rows_of(vars, sets[n], n);
-        turning::turn(&mut rows);
-        put_rows(out, n * 64, &rows);
+        let words = words_of(vars, sets[n], n);
+        put_rows(out, n * 64, &words);
         n += 1;
     }
 }

@@ -9,7 +9,7 @@ use Rattle.lists.specs.Listed.{listed, upto}
 use Rattle.lists.proofs.Fills.{put-none}
 use Rattle.packing.specs.Packing.{packHistories}
 use Rattle.packing.proofs.Areas.{net-next, net-all, net-length}
-use Rattle.packing.proofs.Packing.{historyAt, rows-length, rows-placed}
+use Rattle.packing.proofs.Packing.{historyAt, rows-placed}
 use Rattle.packing.proofs.histories.Statement.{statement}
 use Rattle.packing.proofs.histories.Tie as tie
 
@@ -22,25 +22,23 @@ abbrev μ-loop : tie.MeasureT-loop
 loop-holds : tie.Need-loop-holds Inv-loop μ-loop
 loop-holds c = (omega arith, put-none _ 0 16384 (c .args .out .now) (c .pre))
 
-mul-rows-of : tie.Need-mul-rows-of Inv-loop μ-loop
-mul-rows-of c = search needs
+mul-words-of : tie.Need-mul-words-of Inv-loop μ-loop
+mul-words-of c = search needs
 
-element-copy-out-rows-of : tie.Need-element-copy-out-rows-of Inv-loop μ-loop
-element-copy-out-rows-of c = search needs
+element-copy-out-words-of : tie.Need-element-copy-out-words-of Inv-loop μ-loop
+element-copy-out-words-of c = search needs
 
-rows-of-requires : tie.Need-rows-of-requires Inv-loop μ-loop
-rows-of-requires c κs = search needs
-
-turn-requires : tie.Need-turn-requires Inv-loop μ-loop
-turn-requires c κs = rows-length _ _ _ _ (c .before .rows-of .ensures)
+words-of-requires : tie.Need-words-of-requires Inv-loop μ-loop
+words-of-requires c κs = search needs
 
 mul-put-rows : tie.Need-mul-put-rows Inv-loop μ-loop
 mul-put-rows c = search needs
 
 put-rows-requires : tie.Need-put-rows-requires Inv-loop μ-loop
 put-rows-requires c κs =
-    let l = c .before .before .before .before .before .before .before .loop in
-    (omega (arith, c .before .before .before .before .before .before .loop-test .taken), net-length _ _ 16384 (l .n * 64) (l .out) (l .inv .1))
+    let test = c .before .before .before .before in
+    let l = test .before .loop in
+    (omega (arith, test .loop-test .taken), net-length _ _ 16384 (l .n * 64) (l .out) (l .inv .1))
 
 add-n : tie.Need-add-n Inv-loop μ-loop
 add-n c = search needs
@@ -50,14 +48,13 @@ loop-less c = search needs
 
 loop-again : tie.Need-loop-again Inv-loop μ-loop
 loop-again c =
-    let turned = c .before .before .before in
-    let made = turned .before .before in
+    let made = c .before .before .before in
     let test = made .before .before in
     let l = test .before .loop in
     let a = test .before .before .args in (
       omega (arith, test .loop-test .taken),
       net-next _ _ 16384 (l .n) _ (l .out) _ (omega (arith, test .loop-test .taken))
-          (rows-placed (a .sets .now) (a .vars .now) (l .n) _ _ (made .rows-of .ensures) (turned .turn .ensures)) (l .inv .1) (c .put-rows .ensures),
+          (rows-placed (a .sets .now) (a .vars .now) (l .n) _ (made .words-of .ensures)) (l .inv .1) (c .put-rows .ensures),
     )
 
 returns : tie.Need-returns Inv-loop μ-loop
@@ -71,10 +68,9 @@ histories-spec =
     Inv-loop
     μ-loop
     loop-holds
-    mul-rows-of
-    element-copy-out-rows-of
-    rows-of-requires
-    turn-requires
+    mul-words-of
+    element-copy-out-words-of
+    words-of-requires
     mul-put-rows
     put-rows-requires
     add-n
