@@ -136,7 +136,7 @@ static void check_refused(struct random_source *r, const struct sim *s, uint8_t 
 /* All vectors of a sequence in one call: the words of each, and the bytes that the calls one by one left. */
 static void check_many(const struct sim *s, int c, const uint8_t *before, const uint8_t *after, const uint8_t *all, size_t count, const uint64_t *word)
 {
-    static uint64_t got[(MOST + 64) * SIM_NETS];
+    static uint64_t got[(MOST + 64) * SIM_NETS]; /* a fault may write as many vectors as go at once */
     static uint8_t wrong[MOST * SIM_NETS + 1];
     uint8_t session[KRASVOME_SESSION + 1], old[KRASVOME_SESSION + 1];
     size_t n = (size_t)s->inputs, nets = (size_t)s->nets, size = count * n, room = count * nets;
