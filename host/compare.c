@@ -117,7 +117,8 @@ static void check_refused(struct random_source *r, const struct sim *s, uint8_t 
     }
     check_answer("a long vector", krasvome_vector(session, KRASVOME_SESSION, v, n + 1), 10, 0, session, old);
     check_answer("a short rest", krasvome_rest(session, KRASVOME_SESSION, v, n - 1), 10, 0, session, old);
-    v[random_below(r, (unsigned)n)] = (uint8_t)(2 + random_below(r, 254));
+    uint8_t byte = (uint8_t)(2 + random_below(r, 254));
+    v[random_below(r, (unsigned)n)] = byte;
     check_answer("a wrong byte", krasvome_steps(session, KRASVOME_SESSION, v, n), 11, 0, session, old);
     check_answer("a short slice", krasvome_vector(session, KRASVOME_SESSION - 1, v, n), 18, 0, session, old);
     for (int c = 0; c < CALLS; c++)
