@@ -1,8 +1,8 @@
 /* Times of the engines on one card, as the mean of many vectors: the library's field engine inside the call that runs many vectors, the same algorithm by hand, and
  * the event-driven simulator, with a given part of the inputs changing. One line: nets, gates, depth, steps, inputs, percent, and nanoseconds a vector of each;
  * then those of a call for one vector, by fields and by steps, each of which makes the session again from its bytes; then those of the steps by hand, as the library
- * does them and with all reads looked up ahead; then those of the step engine inside the call that runs many vectors, and of both ways by hand to do the same.
- * The words of each are compared with the simulator's.
+ * does them and with all reads looked up ahead; then those of the step engine inside the call that runs many vectors, and of both ways by hand to do the same;
+ * last the part of the steps, in a hundred, that change their net. The words of each are compared with the simulator's.
  *
  *     measure SHAPE SIZE PERCENT        SHAPE: largest, ladder, random
  *     measure SHAPE SIZE PERCENT show   the card and the vectors in hex instead, a line each */
@@ -94,9 +94,12 @@ int main(int argc, char **argv)
     if (!before || st.steps != s.pairs)
         return 2;
     sim_rest(&s, rest);
+    double changes = 0;
     for (size_t k = 0; k < VECTORS; k++) {
         sim_vector(&s, vectors + k * n);
         memcpy(wanted + k * nets, s.word, nets * sizeof *words);
+        for (size_t i = 0; i < nets; i++)
+            changes += __builtin_popcountll((s.word[i] ^ s.word[i] << 1) & ~UINT64_C(1));
     }
     hand_rest(&h, &s, rest);
     for (size_t k = 0; k < CALLS; k++) {
@@ -176,7 +179,7 @@ int main(int argc, char **argv)
         }
         events = less(events, (now() - t) / VECTORS);
     }
-    printf("%d %d %d %d %d %u %.0f %.0f %.0f %.0f %.0f %.0f %.0f %.0f %.0f %.0f\n", s.nets, h.gates, s.depth, s.pairs, s.inputs, percent, fields, hand, events, call, steps, steps_hand, ready, packs,
-           packs_hand, packs_ready);
+    printf("%d %d %d %d %d %u %.0f %.0f %.0f %.0f %.0f %.0f %.0f %.0f %.0f %.0f %.1f\n", s.nets, h.gates, s.depth, s.pairs, s.inputs, percent, fields, hand, events, call, steps, steps_hand, ready, packs,
+           packs_hand, packs_ready, 100 * changes / VECTORS / s.pairs);
     return 0;
 }
