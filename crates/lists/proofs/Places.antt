@@ -1,10 +1,10 @@
 -- Lists by place: entries that are all 0 from one place to another, an area that was written, and a part. Assumes nothing.
-use mathlib.Core.Path.{_≡_, refl, sym, ap, _∙_}
+use mathlib.Core.Path.{_≡_, refl, sym, ap, ap₂, _∙_}
 use mathlib.Core.Bool.{Bool, true, false, cond, _&&_}
 use mathlib.Core.List.{List}
 use mathlib.Core.Logic.{_⊎_, inl, inr}
 use Prim.Native.Nat.{ℕ, suc, _+_, _-_, _*_, _≤_, _<_}
-use native.Mathlib.Nat.{suc-mul, mul-le-mul-right}
+use native.Mathlib.Nat.{add-zero, suc-mul, mul-le-mul-right}
 use native.Mathlib.Omega.{arith}
 use native.Mathlib.Decide.{decLt}
 use lib.Dec.{eqb, leb, ltb}
@@ -143,6 +143,25 @@ module _ (P : ℕ → Type 0) (zero-too : P 0) (b : List ℕ) (all : (i : ℕ) �
       go false e =
           let short : length (part b at n) ≤ n = rw (length-take n (drop at b)) (omega arith) in
           rw (List·getD-eq-default (part b at n) 0 {n = i} (omega (arith, short, ltb-false i n e))) zero-too
+
+-- an area that is written place by place: none, one more, all of them; the list stays as long as it was
+module _ (b : List ℕ) (at : ℕ) (v : List ℕ) where
+  pub put-start : b ≡ area b at (at + 0) v
+  put-start = area-none b at v ∙ ap (λ k. area b at k v) (sym (add-zero at))
+
+  pub put-next : (i w : ℕ) (xs : List ℕ) → at + i < length b → xs ≡ area b at (at + i) v → w ≡ getD v i 0
+      → set xs (at + i) w ≡ area b at (at + (i + 1)) v
+  put-next i w xs l e h =
+      let here : i ≡ at + i - at = omega arith in
+      let next : at + i + 1 ≡ at + (i + 1) = omega arith in
+      ap₂ (λ x y. set x (at + i) y) e (h ∙ ap (λ k. getD v k 0) here) ∙ area-more b at (at + i) v (omega arith) l
+      ∙ ap (λ k. area b at k v) next
+
+  pub put-end : (i n : ℕ) (xs : List ℕ) → i ≡ n → xs ≡ area b at (at + i) v → xs ≡ area b at (at + n) v
+  put-end i n xs q e = e ∙ ap (λ k. area b at (at + k) v) q
+
+  pub put-length : (to : ℕ) (xs : List ℕ) → xs ≡ area b at to v → length xs ≡ length b
+  put-length to xs e = ap length e ∙ length-area b at to v
 
 -- entries that are filled from the front, with an area more
 pub upto-area : (f g : ℕ → ℕ) (n a b : ℕ) (v : List ℕ) → a ≤ b → b ≤ n → ((i : ℕ) → a ≤ i → i < b → getD v (i - a) 0 ≡ f i)

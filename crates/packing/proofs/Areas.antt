@@ -1,34 +1,13 @@
--- An area that is written place by place, and a long list that is filled an area at a time. Assumes nothing.
-use mathlib.Core.Path.{_≡_, sym, ap, ap₂, _∙_}
+-- A long list that is filled an area at a time. Assumes nothing.
+use mathlib.Core.Path.{_≡_, ap, _∙_}
 use mathlib.Core.List.{List}
 use Prim.Native.Nat.{ℕ, _+_, _-_, _*_, _≤_, _<_}
-use native.Mathlib.Nat.{add-zero}
 use native.Mathlib.Omega.{arith}
-use lib.ListN.{length, getD, set}
+use lib.ListN.{length, getD}
 use Rattle.lists.specs.Listed.{listed, upto}
 use Rattle.lists.specs.Places.{area}
 use Rattle.lists.proofs.Listed.{length-listed, upto-all}
-use Rattle.lists.proofs.Places.{length-area, area-none, area-more, upto-area, turn-next}
-
--- Place by place: none, one more, all of them; the list stays as long as it was
-
-module _ (b : List ℕ) (at : ℕ) (v : List ℕ) where
-  pub put-start : b ≡ area b at (at + 0) v
-  put-start = area-none b at v ∙ ap (λ k. area b at k v) (sym (add-zero at))
-
-  pub put-next : (i w : ℕ) (xs : List ℕ) → at + i < length b → xs ≡ area b at (at + i) v → w ≡ getD v i 0
-      → set xs (at + i) w ≡ area b at (at + (i + 1)) v
-  put-next i w xs l e h =
-      let here : i ≡ at + i - at = omega arith in
-      let next : at + i + 1 ≡ at + (i + 1) = omega arith in
-      ap₂ (λ x y. set x (at + i) y) e (h ∙ ap (λ k. getD v k 0) here) ∙ area-more b at (at + i) v (omega arith) l
-      ∙ ap (λ k. area b at k v) next
-
-  pub put-end : (i n : ℕ) (xs : List ℕ) → i ≡ n → xs ≡ area b at (at + i) v → xs ≡ area b at (at + n) v
-  put-end i n xs q e = e ∙ ap (λ k. area b at (at + k) v) q
-
-  pub put-length : (to : ℕ) (xs : List ℕ) → xs ≡ area b at to v → length xs ≡ length b
-  put-length to xs e = ap length e ∙ length-area b at to v
+use Rattle.lists.proofs.Places.{upto-area, turn-next}
 
 -- 64 places at a time, of m: 64 more, all of them; the list stays as long as it was
 

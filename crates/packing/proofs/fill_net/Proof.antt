@@ -5,8 +5,8 @@ use native.Mathlib.Omega.{arith}
 use borrow.Author.Needs.{needs}
 use Rattle.lists.specs.Listed.{listed}
 use Rattle.lists.specs.Places.{area}
+use Rattle.lists.proofs.Places.{put-start, put-next, put-end}
 use Rattle.lists.proofs.Listed.{listed-at}
-use Rattle.packing.proofs.Areas.{put-start, put-next, put-end}
 use Rattle.packing.proofs.fill_net.Statement.{statement}
 use Rattle.packing.proofs.fill_net.Tie as tie
 

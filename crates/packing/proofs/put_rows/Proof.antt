@@ -4,7 +4,7 @@ use Prim.Native.Nat.{_+_, _-_, _≤_}
 use native.Mathlib.Omega.{arith}
 use borrow.Author.Needs.{needs}
 use Rattle.lists.specs.Places.{area}
-use Rattle.packing.proofs.Areas.{put-start, put-next, put-end}
+use Rattle.lists.proofs.Places.{put-start, put-next, put-end}
 use Rattle.packing.proofs.put_rows.Statement.{statement}
 use Rattle.packing.proofs.put_rows.Tie as tie
 

@@ -5,9 +5,9 @@ use Prim.Native.Nat.{_+_, _-_, _≤_}
 use native.Mathlib.Omega.{arith}
 use borrow.Author.Needs.{needs}
 use Rattle.lists.specs.Places.{area}
+use Rattle.lists.proofs.Places.{put-start, put-next, put-end, put-length}
 use Rattle.lists.proofs.Listed.{listed-at}
 use Rattle.packing.specs.Packing.{vectorWords}
-use Rattle.packing.proofs.Areas.{put-start, put-next, put-end, put-length}
 use Rattle.packing.proofs.put_vector.Statement.{statement}
 use Rattle.packing.proofs.put_vector.Tie as tie
 
