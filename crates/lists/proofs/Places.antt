@@ -163,6 +163,16 @@ module _ (b : List ℕ) (at : ℕ) (v : List ℕ) where
   pub put-length : (to : ℕ) (xs : List ℕ) → xs ≡ area b at to v → length xs ≡ length b
   put-length to xs e = ap length e ∙ length-area b at to v
 
+-- only so many entries of a list come to an area
+pub area-same : (b : List ℕ) (at n : ℕ) (v w : List ℕ) → ((k : ℕ) → k < n → getD v k 0 ≡ getD w k 0) → area b at (at + n) v ≡ area b at (at + n) w
+unfolding area
+area-same b at n v w h = listed-ext _ _ (length b) (λ i l. go i (decLt i at) (decLt i (at + n)))
+  where
+    go : (i : ℕ) → Dec (i < at) → Dec (i < at + n) → cond (leb at i && ltb i (at + n)) (getD v (i - at) 0) (getD b i 0) ≡ cond (leb at i && ltb i (at + n)) (getD w (i - at) 0) (getD b i 0)
+    go i (yes x) y = rw (lt-leb at i x)
+    go i (no x) (yes y) = ap (λ k. cond (leb at i && ltb i (at + n)) k (getD b i 0)) (h (i - at) (omega arith))
+    go i (no x) (no y) = rw (le-ltb i (at + n) (omega arith), le-leb at i (omega arith))
+
 -- entries that are filled from the front, with an area more
 pub upto-area : (f g : ℕ → ℕ) (n a b : ℕ) (v : List ℕ) → a ≤ b → b ≤ n → ((i : ℕ) → a ≤ i → i < b → getD v (i - a) 0 ≡ f i)
     → area (listed (upto f g a) n) a b v ≡ listed (upto f g b) n

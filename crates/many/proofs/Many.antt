@@ -14,7 +14,7 @@ use Rattle.lists.specs.Places.{part, area}
 use Rattle.lists.proofs.Tests.{every-at}
 use Rattle.lists.proofs.Order.{at-in}
 use Rattle.lists.proofs.Listed.{length-listed, out-listed}
-use Rattle.lists.proofs.Places.{turn-next, turn-fits, length-area, part-listed}
+use Rattle.lists.proofs.Places.{turn-next, length-area, part-listed}
 use Rattle.rule.specs.declared.Refusal.the-variants.{NotReady, VectorLength, VectorByte, NoRoom}
 use Rattle.rule.specs.declared.Answer.the-variants.{Done, Refused}
 use Rattle.inputs.specs.Allowed.{byteLimit, Vector}

@@ -1,10 +1,11 @@
 -- What stands at a place of a pack: the start of its net, and the history of its net in its vector. Assumes nothing.
 use mathlib.Core.Path.{_≡_, sym, ap, ap₂, _∙_}
 use mathlib.Core.List.{List}
-use Prim.Native.Nat.{ℕ, _+_, _*_, _/_, _%_, _<_}
+use Prim.Native.Nat.{ℕ, _+_, _*_, _/_, _%_, _≤_, _<_}
 use native.Mathlib.Omega.{arith}
 use lib.ListN.{length, getD}
-use Rattle.lists.specs.Listed.{listed}
+use borrow.Author.Tests.{lt-ltb}
+use Rattle.lists.specs.Listed.{listed, upto}
 use Rattle.lists.proofs.Listed.{length-listed, listed-at, listed-ext}
 use Rattle.word.specs.Word.{bit, wordOf}
 use Rattle.word.specs.Times.{greatest, zeroIn}
@@ -90,13 +91,15 @@ module _ (sets vars : List ℕ) where
       → getD words i 0 ≡ historyAt (n * 64 + i)
   rows-placed n words e i l = ap (λ x. getD x i 0) e ∙ rows-turned (getD sets n 0) vars n i l ∙ sym (place-history n i l)
 
-  pub histories-length : length (packHistories sets vars) ≡ 16384
-  unfolding packHistories
-  histories-length = length-listed historyAt 16384
+  module _ (nets : ℕ) (few : nets ≤ 256) (room : List ℕ) where
+    pub histories-length : length (packHistories sets vars nets room) ≡ 16384
+    unfolding packHistories
+    histories-length = length-listed _ 16384
 
-  pub pack-history : (n i : ℕ) → n < 256 → i < 64 → getD (packHistories sets vars) (n * 64 + i) 0 ≡ historyOf (getD sets n 0) (varsIn vars n i)
-  unfolding packHistories
-  pack-history n i l b = listed-at historyAt 16384 (n * 64 + i) 0 (omega arith) ∙ place-history n i b
-
-  pub vector-words : (i : ℕ) → i < 64 → vectorWords (packHistories sets vars) i ≡ listed (λ n. historyOf (getD sets n 0) (varsIn vars n i)) 256
-  vector-words i b = listed-ext _ _ 256 (λ n l. pack-history n i l b)
+    -- a net's history in vector i
+    pub vector-word : (n i : ℕ) → n < nets → i < 64 → getD (vectorWords (packHistories sets vars nets room) i) n 0 ≡ historyOf (getD sets n 0) (varsIn vars n i)
+    unfolding packHistories
+    vector-word n i l b =
+        listed-at (λ n. getD (packHistories sets vars nets room) (n * 64 + i) 0) 256 n 0 (omega arith)
+        ∙ listed-at (upto historyAt (λ p. getD room p 0) (nets * 64)) 16384 (n * 64 + i) 0 (omega arith)
+        ∙ rw (lt-ltb (n * 64 + i) (nets * 64) (omega arith)) (place-history n i b)

@@ -3,7 +3,7 @@
 use mathlib.Core.List.{List}
 use Prim.Native.Nat.{ℕ, _+_, _*_, _/_, _%_}
 use lib.ListN.{getD}
-use Rattle.lists.specs.Listed.{listed}
+use Rattle.lists.specs.Listed.{listed, upto}
 use Rattle.word.specs.Word.{bit, wordOf}
 use Rattle.word.specs.Times.{greatest, zeroIn}
 use Rattle.variables.specs.Variables.{historyOf}
@@ -20,9 +20,10 @@ varsIn vars n i = wordOf 64 (λ t. bit (getD vars (n * 64 + t) 0) i)
 unfoldable pub rowsOf : ℕ → List ℕ → ℕ → List ℕ
 rowsOf set vars n = listed (λ t. getD vars (n * 64 + greatest (zeroIn (bit set)) (t + 1) 0) 0) 64
 
--- the histories: that of net n in vector i at place 64 n + i
-unfoldable pub packHistories : List ℕ → List ℕ → List ℕ
-packHistories sets vars = listed (λ p. historyOf (getD sets (p / 64) 0) (varsIn vars (p / 64) (p % 64))) 16384
+-- the histories of the first n nets in lent room, that of net k in vector i at place 64 k + i; all else is as it was
+unfoldable pub packHistories : List ℕ → List ℕ → ℕ → List ℕ → List ℕ
+packHistories sets vars n room =
+    listed (upto (λ p. historyOf (getD sets (p / 64) 0) (varsIn vars (p / 64) (p % 64))) (λ p. getD room p 0) (n * 64)) 16384
 
 -- those of vector i, a word a net
 abbrev pub vectorWords : List ℕ → ℕ → List ℕ

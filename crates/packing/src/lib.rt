@@ -103,13 +103,18 @@ fn put_rows<'a>(out: &mut [u64; 16384], at: usize, rows: &'a [u64; 64])
     }
 }
 
-// The histories of all vectors from their variables.
-pub fn histories<'a>(out: &mut [u64; 16384], vars: &'a [u64; 16384], sets: &'a [u64; 256])
-    requires { ⌜ length (now out) ≡ 16384 ⌝ }
-    ensures { λ r. ⌜ now (out .exit) ≡ packHistories (now (sets .entry)) (now (vars .entry)) ⌝ }
+// The histories of so many nets in all vectors, from their variables.
+pub fn histories<'a>(
+    out: &mut [u64; 16384],
+    vars: &'a [u64; 16384],
+    sets: &'a [u64; 256],
+    nets: usize,
+)
+    requires { ⌜ (nets ≤ 256) × (length (now out) ≡ 16384) ⌝ }
+    ensures { λ r. ⌜ now (out .exit) ≡ packHistories (now (sets .entry)) (now (vars .entry)) nets (now (out .entry)) ⌝ }
 {
     let mut n: usize = 0;
-    while n < 256 {
+    while n < nets {
         let words = words_of(vars, sets[n], n);
         put_rows(out, n * 64, &words);
         n += 1;

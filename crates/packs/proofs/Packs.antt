@@ -8,12 +8,12 @@ use native.Mathlib.Omega.{arith}
 use native.Mathlib.Decide.{ℕ-discrete, decLt}
 use lib.Dec.{ltb, lit<}
 use lib.ListN.{length, getD}
-use borrow.Author.Tests.{eq-eqb, ne-eqb, lt-ltb}
+use borrow.Author.Tests.{ne-eqb, lt-ltb}
 use Rattle.lists.specs.Entries.{every}
 use Rattle.lists.specs.Listed.{listed}
 use Rattle.lists.specs.Places.{part, area}
 use Rattle.lists.proofs.Listed.{listed-at, listed-ext}
-use Rattle.lists.proofs.Places.{turn-next, turn-fits, turn-place, part-listed}
+use Rattle.lists.proofs.Places.{turn-next, turn-fits, turn-place, part-listed, area-same}
 use Rattle.word.specs.Word.{bit, isOne, wordOf, movedUp}
 use Rattle.word.proofs.Words.{bit-word}
 use Rattle.rule.specs.Net.{Net, input, constant, gate, netAt}
@@ -31,13 +31,13 @@ use Rattle.card.specs.Session.{cardOf, isInput}
 use Rattle.card.specs.Held.{HasCard}
 use Rattle.card.proofs.Reading.{inputs-laid}
 use Rattle.card.proofs.Kept.{kinds-are, card-fits}
-use Rattle.session.specs.Good.{Good, Rested}
+use Rattle.session.specs.Good.{Good}
 use Rattle.session.specs.Moves.{ends, movedBy, settled}
 use Rattle.session.proofs.Held.{inputs-ranked}
 use Rattle.session.proofs.Moving.{history-at}
 use Rattle.session.proofs.Settling.{settled-from}
 use Rattle.session.proofs.Refusals.{vector-takes}
-use Rattle.settling.specs.Packs.{settledPack, startIn, valuesIn}
+use Rattle.settling.specs.Packs.{settledPack, startIn}
 use Rattle.settling.proofs.Settled.{packGives, pack-settles}
 use Rattle.variables.specs.Variables.{historyOf, historiesFrom}
 use Rattle.listing.proofs.Cards.{step-low}
@@ -45,8 +45,8 @@ use Rattle.steps.specs.Runs.{ran}
 use Rattle.steps.specs.Vector.{startVars, ranAlong, ranSession, stepsVectorOf}
 use Rattle.steps.proofs.Vectors.{steps-takes}
 use Rattle.steps.proofs.Engines.{run-count, steps-rule, engines-equal}
-use Rattle.packing.specs.Packing.{packVars, varsIn, packHistories, vectorWords}
-use Rattle.packing.proofs.Packing.{vars-length, vars-in, vector-words}
+use Rattle.packing.specs.Packing.{packVars, varsIn, vectorWords}
+use Rattle.packing.proofs.Packing.{vars-length, vars-in, vector-word}
 use Rattle.lanes.specs.Lanes.{laneOf, lanesRan}
 use Rattle.lanes.proofs.Lanes.{lane-at}
 use Rattle.lanes.proofs.Runs.{lane-ran}
@@ -267,28 +267,31 @@ module _ (s : Session) (g : Good s) (r : s .rested ≡ true) (vs room : List ℕ
             by false e = before i k l b
 
     -- and has its own history
-    vector-is : (i : ℕ) → i < m → vectorWords (packHist s ended v m) i ≡ left (done + i + 1) .words
+    vector-is : (few-nets : s .nets ≤ 256) (hist : List ℕ) (i k : ℕ) → i < m → k < s .nets → getD (vectorWords (packHist s ended v m hist) i) k 0 ≡ getD (left (done + i + 1) .words) k 0
     unfolding packRan historiesFrom
-    vector-is i l =
+    vector-is few-nets hist i k l b =
         let vars = packVars (listed (startIn (s .kinds) ended words) 256) in
         let after = lanesRan (s .types) (s .counts) (s .places) (s .sets) vars (stepList c) in
-        vector-words (s .sets) after i (omega arith)
-        ∙ listed-ext (λ k. historyOf (getD (s .sets) k 0) (varsIn after k i)) (λ k. historyOf (getD (s .sets) k 0) (getD (laneOf i after) k 0)) 256
-        (λ k b. ap (historyOf (getD (s .sets) k 0)) (sym (lane-at i after k b)))
-        ∙ ap (historiesFrom (s .sets))
+        let own = ran (s .types) (s .counts) (s .places) (s .sets) (startVars (left (done + i)) (new (done + i))) (stepList c) .words in
+        vector-word (s .sets) after (s .nets) few-nets hist k i b (omega arith)
+        ∙ ap (historyOf (getD (s .sets) k 0)) (sym (lane-at i after k (omega arith)))
+        ∙ ap (λ ws. historyOf (getD (s .sets) k 0) (getD ws k 0))
         (lane-ran (s .types) (s .counts) (s .places) (s .sets) i (omega arith) vars (stepList c) (vars-length _) (λ k q. let low = step-low s h k (list-only c k q) in (low .0, low .2))
         ∙ ap (λ ws. ran (s .types) (s .counts) (s .places) (s .sets) ws (stepList c) .words) (lane-starts i l))
-        ∙ words-next (done + i) (at-vector i l)
+        ∙ sym (listed-at (λ k. historyOf (getD (s .sets) k 0) (getD own k 0)) 256 k 0 (omega arith))
+        ∙ ap (λ ws. getD ws k 0) (words-next (done + i) (at-vector i l))
 
     -- The words of the pack stand after those of the vectors ahead of it
-    pub pack-put : (i : ℕ) → i ≤ m → vectorsPut (packHist s ended v m) (s .nets) (manyRun s vs n done room .words) (done * s .nets) i ≡ manyRun s vs n (done + i) room .words
+    pub pack-put : s .nets ≤ 256 → (hist : List ℕ) (i : ℕ) → i ≤ m
+        → vectorsPut (packHist s ended v m hist) (s .nets) (manyRun s vs n done room .words) (done * s .nets) i ≡ manyRun s vs n (done + i) room .words
     unfolding vectorsPut
-    pack-put zero l = let e : done ≡ done + 0 = omega arith in ap (λ j. manyRun s vs n j room .words) e
-    pack-put (suc i) l =
+    pack-put few-nets hist zero l = let e : done ≡ done + 0 = omega arith in ap (λ j. manyRun s vs n j room .words) e
+    pack-put few-nets hist (suc i) l =
         let at : done * s .nets + i * s .nets ≡ (done + i) * s .nets = sym (add-mul done i (s .nets)) in
         let next : done + i + 1 ≡ done + suc i = omega arith in
         let more = many-more s vs n (done + i) room in
-        (λ x. area (pack-put i (omega arith) x) (at x) (at x + s .nets) (vector-is i (omega arith) x))
+        (λ x. area (pack-put few-nets hist i (omega arith) x) (at x) (at x + s .nets) (vectorWords (packHist s ended v m hist) i))
+        ∙ area-same (manyRun s vs n (done + i) room .words) ((done + i) * s .nets) (s .nets) (vectorWords (packHist s ended v m hist) i) (left (done + i + 1) .words) (λ k b. vector-is few-nets hist i k (omega arith) b)
         ∙ ap (λ ws. area (manyRun s vs n (done + i) room .words) ((done + i) * s .nets) ((done + i) * s .nets + s .nets) ws) (ap (λ x. x .session .words) more)
         ∙ sym (ap (λ x. x .words) more) ∙ ap (λ j. manyRun s vs n j room .words) next
 

@@ -33,9 +33,9 @@ unfoldable pub packRan : Session → List Bool → List ℕ → ℕ → List ℕ
 packRan s ended v m =
     lanesRan (s .types) (s .counts) (s .places) (s .sets) (packVars (listed (startIn (s .kinds) ended (packWords s ended v m)) 256)) (stepList (cardOf s))
 
--- their histories, and the values that the last vector ends in
-abbrev pub packHist : Session → List Bool → List ℕ → ℕ → List ℕ
-packHist s ended v m = packHistories (s .sets) (packRan s ended v m)
+-- their histories in lent room, and the values that the last vector ends in
+abbrev pub packHist : Session → List Bool → List ℕ → ℕ → List ℕ → List ℕ
+packHist s ended v m room = packHistories (s .sets) (packRan s ended v m) (s .nets) room
 
 abbrev pub packEnds : Session → List Bool → List ℕ → ℕ → List Bool
 packEnds s ended v m = valuesIn (packWords s ended v m) (m - 1)

@@ -27,9 +27,9 @@ fn run_pack<'a>(
 ) -> [bool; 256]
     requires { ⌜ Good s ⌝ }
     requires { ⌜ (s .rested ≡ true) × (now inputs ≡ inputNets (s .kinds) 256) × (total ≤ 4096) × (stepsOf (now nets) (now times) total ≡ stepList (cardOf s)) ⌝ }
-    requires { ⌜ (0 < m) × (m ≤ 64) × (m * s .inputs ≤ length (now v)) × (length (now vars) ≡ 16384) × (length (now hist) ≡ 16384) ⌝ }
+    requires { ⌜ (0 < m) × (m ≤ 64) × (m * s .inputs ≤ length (now v)) × (length (now vars) ≡ 16384) × (length (now hist) ≡ 16384) × (s .nets ≤ 256) ⌝ }
     ensures { λ r. ⌜ r ≡ packEnds s (now (ended .entry)) (now (v .entry)) m ⌝ }
-    ensures { λ r. ⌜ now (hist .exit) ≡ packHist s (now (ended .entry)) (now (v .entry)) m ⌝ }
+    ensures { λ r. ⌜ now (hist .exit) ≡ packHist s (now (ended .entry)) (now (v .entry)) m (now (hist .entry)) ⌝ }
     ensures { λ r. ⌜ length (now (vars .exit)) ≡ 16384 ⌝ }
 {
     let words = settling::settle_pack(
@@ -58,7 +58,7 @@ fn run_pack<'a>(
         times,
         total,
     );
-    packing::histories(hist, vars, &s.sets);
+    packing::histories(hist, vars, &s.sets, s.nets);
     settling::values_at(&words, m - 1)
 }
 

@@ -1,11 +1,11 @@
 -- A pack's words settle: in vector i every net has its settled value for that vector's bytes. Assumes nothing.
-use mathlib.Core.Path.{_≡_, refl, sym, ap, ap₂, _∙_, subst}
+use mathlib.Core.Path.{_≡_, refl, sym, ap, ap₂, _∙_}
 use mathlib.Core.Bool.{Bool, true, false, cond, true≢false, false≢true}
 use mathlib.Core.List.{List, map, map-map}
 use Prim.Native.Nat.{ℕ, _+_, _*_, _<_}
 use native.Mathlib.Omega.{arith}
 use native.Mathlib.Decide.{ℕ-discrete, decLt}
-use lib.Dec.{eqb, ltb}
+use lib.Dec.{ltb}
 use lib.ListN.{length, getD, List·getD-eq-default}
 use Rattle.lists.specs.Listed.{listed}
 use Rattle.lists.proofs.Tests.{map-ext}
@@ -17,7 +17,7 @@ use Rattle.rule.specs.Net.{Net, input, constant, gate, openPin, openValue, atPi
 use Rattle.rule.specs.Level.{Looped}
 use Rattle.rule.specs.Rule.{Settled, AtRest}
 use Rattle.rule.specs.Steps.{gateOrder}
-use Rattle.rule.proofs.Nets.{at-open, at-net, not-open, net-open}
+use Rattle.rule.proofs.Nets.{at-open, at-net, net-open}
 use Rattle.rule.proofs.Values.{constant-is, input-is}
 use Rattle.wiring.specs.Layout.{typeOf, typesOf, countsOf, placesOf}
 use Rattle.wiring.proofs.Layouts.{type-at}

@@ -1,11 +1,9 @@
 -- `host::do_many` meets its contract: all of the vectors, or none. Assumes nothing.
 use mathlib.Core.Path.{sym, ap, _∙_}
-use Prim.Native.Nat.{_*_, _≤_}
 use native.Mathlib.Nat.{le-of-eq, le-div-iff-mul-le}
 use native.Mathlib.Omega.{arith}
 use lib.ListN.{length}
 use borrow.Author.Needs.{needs}
-use Rattle.card.specs.Held.{HasCard}
 use Rattle.card.proofs.Kept.{nets-are, inputs-some}
 use Rattle.many.proofs.Many.{many-asks}
 use Rattle.host.specs.Vectors.{manyDone}

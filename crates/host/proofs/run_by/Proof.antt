@@ -1,5 +1,5 @@
 -- `host::run_by` meets its contract. Assumes nothing.
-use mathlib.Core.Path.{_≡_, sym, ap, _∙_}
+use mathlib.Core.Path.{sym, ap, _∙_}
 use borrow.Author.Needs.{needs}
 use Rattle.host.specs.Vectors.{runBy, countBy}
 use Rattle.host.proofs.run_by.Statement.{statement}

@@ -1,5 +1,5 @@
 -- `packs::put_vectors` meets its contract. The loop's invariant: the words of the first i vectors are put. The measure is what is left of them. Assumes nothing.
-use mathlib.Core.Path.{_≡_, ap, subst, sym, _∙_}
+use mathlib.Core.Path.{_≡_, ap, _∙_}
 use Prim.Native.Nat.{_+_, _-_, _*_, _≤_}
 use native.Mathlib.Omega.{arith}
 use lib.ListN.{length}

@@ -51,7 +51,7 @@ run-list-requires c κs =
     (card-wires s h, (card-fitting s h, (c .before .before .before .before .before .before .before .before .before .before .before .before .before .before .before .before .before .before .before .before .pre .1 .0 .2, subst (Doable (s .types) (s .counts)) (sym (c .before .before .before .before .before .before .before .before .before .before .before .before .before .before .before .before .before .before .before .before .pre .1 .0 .3)) (steps-doable s h (stepList (cardOf s)) (list-only (cardOf s))))))
 
 histories-requires : tie.Need-histories-requires
-histories-requires c κs = c .before .before .before .before .before .before .before .before .before .before .before .before .before .before .before .before .before .before .before .before .before .before .before .before .before .pre .1 .1 .4
+histories-requires c κs = let s = c .before .before .before .before .before .before .before .before .before .before .before .before .before .before .before .before .before .before .before .before .before .before .before .before .before in (s .pre .1 .1 .5, s .pre .1 .1 .4)
 
 sub-values-at : tie.Need-sub-values-at
 sub-values-at c = omega (arith, c .before .before .before .before .before .before .before .before .before .before .before .before .before .before .before .before .before .before .before .before .before .before .before .before .before .before .before .pre .1 .1 .0)
@@ -67,7 +67,7 @@ returns c =
       c .values-at .ensures ∙ ap (λ ws. valuesIn ws (a .m - 1)) words,
       (
         c .before .before .histories .ensures
-            ∙ ap (packHistories (s .sets)) (ran-made s (a .ended .now) (a .v .now) (a .m) _ _ _ _ _ words (c .before .before .before .before .before .before .before .before .before .before .before .before .before .before .before .before .before .starts .ensures) (c .before .before .before .before .before .before .before .before .before .before .before .before .before .before .fill .ensures) (c .before .before .before .before .before .before .before .run-list .ensures .0) (c .before .before .before .before .before .before .before .before .before .before .before .before .before .before .before .before .before .before .before .before .before .before .before .before .before .before .before .before .pre .1 .0 .3)),
+            ∙ ap (λ vars. packHistories (s .sets) vars (s .nets) (a .hist .now)) (ran-made s (a .ended .now) (a .v .now) (a .m) _ _ _ _ _ words (c .before .before .before .before .before .before .before .before .before .before .before .before .before .before .before .before .before .starts .ensures) (c .before .before .before .before .before .before .before .before .before .before .before .before .before .before .fill .ensures) (c .before .before .before .before .before .before .before .run-list .ensures .0) (c .before .before .before .before .before .before .before .before .before .before .before .before .before .before .before .before .before .before .before .before .before .before .before .before .before .before .before .before .pre .1 .0 .3)),
         ran-length s (a .ended .now) (a .v .now) (a .m) _ _ _ _ _ words (c .before .before .before .before .before .before .before .before .before .before .before .before .before .before .before .before .before .starts .ensures) (c .before .before .before .before .before .before .before .before .before .before .before .before .before .before .fill .ensures) (c .before .before .before .before .before .before .before .run-list .ensures .0),
       ),
     )

@@ -1,7 +1,7 @@
 -- `packs::run_packs` meets its contract. The loop's invariant: the nets ended as so many vectors leave them, and the words of those vectors are put. The measure is what is
 -- left of the vectors. Assumes nothing.
-use mathlib.Core.Path.{_≡_, refl, sym, ap, subst, _∙_}
-use Prim.Native.Nat.{ℕ, _+_, _-_, _*_, _≤_, _<_}
+use mathlib.Core.Path.{_≡_, refl, sym, ap, _∙_}
+use Prim.Native.Nat.{_+_, _-_, _*_, _≤_}
 use native.Mathlib.Nat.{zero-mul, add-mul, mul-le-mul-right}
 use native.Mathlib.Omega.{arith}
 use lib.ListN.{length, take, drop}
@@ -123,7 +123,7 @@ run-pack-requires c κs =
     let long : length (part (a .vectors .now) (l .done * a .t1 .inputs) (m * a .t1 .inputs)) ≡ m * a .t1 .inputs =
     ap length (part-listed (a .vectors .now) (l .done * a .t1 .inputs) (m * a .t1 .inputs) (omega (arith, pack-there n, add-mul (l .done) m (a .t1 .inputs)))) ∙ length-listed _ (m * a .t1 .inputs) in
     let size = ap length (bytes-are n) ∙ long in
-    (s .pre .0, ((s .pre .1 .0 .0, c .before .before .before .before .before .before .before .before .before .before .before .before .before .before .before .before .before .before .before .input-nets .ensures, few (c .before .before .before .before .before .before .before .before .before .before .before .before .before), named (c .before .before .before .before .before .before .before .before .before .before .before .before .before)), (n .next-pack .ensures .0, n .next-pack .ensures .1, omega (arith, size), l .inv .6, l .inv .7)))
+    (s .pre .0, ((s .pre .1 .0 .0, c .before .before .before .before .before .before .before .before .before .before .before .before .before .before .before .before .before .before .before .input-nets .ensures, few (c .before .before .before .before .before .before .before .before .before .before .before .before .before), named (c .before .before .before .before .before .before .before .before .before .before .before .before .before)), (n .next-pack .ensures .0, n .next-pack .ensures .1, omega (arith, size), l .inv .6, l .inv .7, s .pre .1 .1 .1)))
 
 put-vectors-requires : tie.Need-put-vectors-requires Inv-loop μ-loop
 put-vectors-requires c κs =
@@ -164,10 +164,10 @@ loop-again c =
       pack .0 ∙ pack-ends s (start .pre .0) (start .pre .1 .0 .0) (a .vectors .now) (a .room .now) (start .pre .1 .0 .1) (l .done) m (n .next-pack .ensures .1) (pack-there n) (l .ended) (l .inv .3) _ (bytes-are n) (n .next-pack .ensures .0),
       c .before .before .put-vectors .ensures
           ∙ (λ z. vectorsPut (pack .1 .0 z) (s .nets) (l .inv .4 z) (l .inv .2 z) m)
-          ∙ pack-put s (start .pre .0) (start .pre .1 .0 .0) (a .vectors .now) (a .room .now) (start .pre .1 .0 .1) (l .done) m (n .next-pack .ensures .1) (pack-there n) (l .ended) (l .inv .3) _ (bytes-are n) m (omega arith),
+          ∙ pack-put s (start .pre .0) (start .pre .1 .0 .0) (a .vectors .now) (a .room .now) (start .pre .1 .0 .1) (l .done) m (n .next-pack .ensures .1) (pack-there n) (l .ended) (l .inv .3) _ (bytes-are n) (start .pre .1 .1 .1) (l .hist) m (omega arith),
       each-done s _ (l .done + m) (omega (arith, n .next-pack .ensures .0)) total,
       pack .1 .1,
-      ap length (pack .1 .0) ∙ histories-length _ _,
+      ap length (pack .1 .0) ∙ histories-length _ _ (s .nets) (start .pre .1 .1 .1) _,
     )
 
 same-length : tie.Need-same-length Inv-loop μ-loop

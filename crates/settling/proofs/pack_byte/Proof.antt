@@ -1,7 +1,6 @@
 -- `settling::pack_byte` meets its contract. The loop's invariant: the first i bits are those of the first i vectors, the rest is 0. The measure is what is left of the
 -- vectors. Assumes nothing.
-use mathlib.Core.Path.{_≡_}
-use Prim.Native.Nat.{ℕ, _+_, _-_, _*_, _^_, _≤_, _<_}
+use Prim.Native.Nat.{_+_, _-_, _*_, _^_, _≤_, _<_}
 use native.Mathlib.Omega.{arith}
 use lib.Dec.{lit<}
 use lib.ListN.{length, getD}

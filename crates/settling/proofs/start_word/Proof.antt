@@ -1,5 +1,4 @@
 -- `settling::start_word` meets its contract: an input's word as it is, any other's moved up by one, with the before value in bit 0. Assumes nothing.
-use mathlib.Core.Path.{_≡_, _∙_}
 use borrow.Author.Needs.{needs}
 use borrow.Author.Tests.{eq-eqb, ne-eqb}
 use Rattle.settling.proofs.start_word.Statement.{statement}
