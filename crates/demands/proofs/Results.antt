@@ -20,7 +20,7 @@ use Rattle.card.proofs.ask_net as ask-fn
 use Rattle.session.proofs.rest as rest-fn
 use Rattle.session.proofs.vector as vector-fn
 use Rattle.history.proofs.history as history-fn
-use Rattle.history.proofs.trace as trace-fn
+use Rattle.traces.proofs.trace as trace-fn
 use Rattle.listing.proofs.list as list-fn
 use Rattle.steps.proofs.vector_steps as steps-fn
 use Rattle.step_records.proofs.list_records as records-fn

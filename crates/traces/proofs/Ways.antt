@@ -10,7 +10,7 @@ use lib.Seq.{sets}
 use Rattle.lists.specs.Entries.{_∈_}
 use Rattle.rule.specs.Net.{Net, pins}
 use Rattle.rule.specs.Cause.{firstPin, causes}
-use Rattle.history.proofs.FirstPins.{first-on}
+use Rattle.traces.proofs.FirstPins.{first-on}
 
 module _ (c : List Net) (moved : ℕ → ℕ → Bool) where
   pub way-none : (n t : ℕ) → t ≤ 0 → causes c moved n t ≡ n ∷ []

@@ -3,10 +3,10 @@ use mathlib.Core.Path.{sym, ap, _∙_}
 use mathlib.Core.Logic.{⊎-elim}
 use native.Mathlib.Omega.{arith}
 use borrow.Author.Needs.{needs}
-use Rattle.history.specs.Traced.{movedAt}
-use Rattle.history.proofs.Moves.{moved-open}
-use Rattle.history.proofs.pin_moved.Statement.{statement}
-use Rattle.history.proofs.pin_moved.Tie as tie
+use Rattle.traces.specs.Traced.{movedAt}
+use Rattle.traces.proofs.Moves.{moved-open}
+use Rattle.traces.proofs.pin_moved.Statement.{statement}
+use Rattle.traces.proofs.pin_moved.Tie as tie
 
 wide16-requires : tie.Need-wide16-requires
 wide16-requires c κs = search needs

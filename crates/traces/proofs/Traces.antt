@@ -27,11 +27,12 @@ use Rattle.card.specs.Held.{HasCard}
 use Rattle.card.specs.declared.Session.{Session}
 use Rattle.card.proofs.Kept.{nets-are, few, card-pins}
 use Rattle.session.specs.Good.{Rested, Good}
-use Rattle.history.specs.Traced.{Traced, movedAt, changedThen, wayBack, traceOf}
-use Rattle.history.proofs.Ways.{way-length, way-first, way-next, way-on}
-use Rattle.history.proofs.Causes.{pinChanged, Cause}
-use Rattle.history.proofs.WaysBack.{entry, Changed, entry-changed, entry-cause, last-changed, last-is-input}
-use Rattle.history.proofs.Ran.{holds, ruleValue, moved-is, pin-moved-is, pin-readable}
+use Rattle.traces.specs.Traced.{Traced, movedAt, changedThen, wayBack, traceOf}
+use Rattle.traces.proofs.Ways.{way-length, way-first, way-next, way-on}
+use Rattle.traces.proofs.Causes.{pinChanged, Cause}
+use Rattle.traces.proofs.WaysBack.{entry, Changed, entry-changed, entry-cause, last-changed, last-is-input}
+use Rattle.history.proofs.Ran.{holds, ruleValue}
+use Rattle.traces.proofs.Moved.{moved-is, pin-moved-is, pin-readable}
 
 -- an answer that leaves the room as it was
 abbrev pub unwritten : List ℕ → Answer → Traced

@@ -8,11 +8,12 @@ use borrow.Author.Tests.{not-true, not-false}
 use borrow.Author.Needs.{needs}
 use Rattle.card.specs.Session.{cardOf}
 use Rattle.card.proofs.Kept.{few, card-pins}
-use Rattle.history.specs.Traced.{movedAt}
-use Rattle.history.proofs.Ran.{holds, session-caused}
-use Rattle.history.proofs.Traces.{gives-12, gives-13, gives-14, gives-18, changed-then, late-then, traced}
-use Rattle.history.proofs.trace.Statement.{statement}
-use Rattle.history.proofs.trace.Tie as tie
+use Rattle.traces.specs.Traced.{movedAt}
+use Rattle.history.proofs.Ran.{holds}
+use Rattle.traces.proofs.Moved.{session-caused}
+use Rattle.traces.proofs.Traces.{gives-12, gives-13, gives-14, gives-18, changed-then, late-then, traced}
+use Rattle.traces.proofs.trace.Statement.{statement}
+use Rattle.traces.proofs.trace.Tie as tie
 
 -- the function's entry, from where its first tests are passed
 abbrev entry : tie.Else3 → tie.Start

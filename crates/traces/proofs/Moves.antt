@@ -9,8 +9,8 @@ use Rattle.word.specs.Word.{bit, differ}
 use Rattle.rule.specs.Net.{openPin}
 use Rattle.rule.specs.Flag.{changedAt}
 use Rattle.rule.proofs.Nets.{at-open, at-net, not-open}
-use Rattle.history.specs.Traced.{movedAt}
+use Rattle.traces.specs.Traced.{movedAt}
 use Rattle.history.proofs.Changes.{differ-is}
 
 -- at time 0 a change is from the before value, later from one unit earlier
 pub changed-first : (b : Bool) (f : ℕ → Bool) (t : ℕ) (x y : Bool) → t ≡ 0 → x ≡ f 0 → y ≡ b → not (Bool·beq x y) ≡ changedAt b f t

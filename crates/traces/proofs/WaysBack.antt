@@ -12,8 +12,8 @@ use Rattle.rule.specs.Net.{Net, input, netAt, pins, Named}
 use Rattle.rule.specs.Rule.{value, AtRest}
 use Rattle.rule.specs.Flag.{changedAt}
 use Rattle.rule.specs.Cause.{firstPin, causes}
-use Rattle.history.proofs.Ways.{way-next}
-use Rattle.history.proofs.Causes.{pinChanged, Cause, first-cause, first-is-input}
+use Rattle.traces.proofs.Ways.{way-next}
+use Rattle.traces.proofs.Causes.{pinChanged, Cause, first-cause, first-is-input}
 
 -- entry i of the way back from net n at time t
 abbrev pub entry : List Net → (ℕ → Bool) → (ℕ → Bool) → ℕ → ℕ → ℕ → ℕ

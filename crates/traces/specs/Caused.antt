@@ -9,7 +9,7 @@ use Rattle.lists.specs.Entries.{_∈_}
 use Rattle.rule.specs.Net.{openPin}
 use Rattle.rule.specs.Cause.{firstPin}
 use Rattle.wiring.specs.Layout.{pinsAt}
-use Rattle.history.specs.Traced.{movedAt}
+use Rattle.traces.specs.Traced.{movedAt}
 
 -- a pin names a place of the arrays or is open
 abbrev pub Readable : ℕ → Type 0

@@ -8,10 +8,10 @@ use lib.ListN.{getD}
 use borrow.Author.Needs.{needs}
 use Rattle.lists.proofs.Listed.{in-listed}
 use Rattle.rule.specs.Net.{openPin}
-use Rattle.history.specs.Traced.{movedAt}
-use Rattle.history.proofs.FirstPins.{none-more, first-none, first-here}
-use Rattle.history.proofs.first_pin.Statement.{statement}
-use Rattle.history.proofs.first_pin.Tie as tie
+use Rattle.traces.specs.Traced.{movedAt}
+use Rattle.traces.proofs.FirstPins.{none-more, first-none, first-here}
+use Rattle.traces.proofs.first_pin.Statement.{statement}
+use Rattle.traces.proofs.first_pin.Tie as tie
 
 abbrev Inv-loop : tie.InvT-loop
 Inv-loop words before counts places g t count j₀ j =

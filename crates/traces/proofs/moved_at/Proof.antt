@@ -5,9 +5,9 @@ use native.Mathlib.Omega.{arith}
 use lib.ListN.{getD}
 use borrow.Author.Needs.{needs}
 use Rattle.word.specs.Word.{bit}
-use Rattle.history.proofs.Moves.{changed-first, changed-later, moved-net}
-use Rattle.history.proofs.moved_at.Statement.{statement}
-use Rattle.history.proofs.moved_at.Tie as tie
+use Rattle.traces.proofs.Moves.{changed-first, changed-later, moved-net}
+use Rattle.traces.proofs.moved_at.Statement.{statement}
+use Rattle.traces.proofs.moved_at.Tie as tie
 
 mul-t6 : tie.Need-mul-t6
 mul-t6 c = search needs

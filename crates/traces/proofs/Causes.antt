@@ -17,7 +17,7 @@ use Rattle.rule.specs.Flag.{changedAt}
 use Rattle.rule.specs.Cause.{firstPin}
 use Rattle.rule.proofs.Nets.{at-open, at-net, net-open}
 use Rattle.rule.proofs.Values.{netFn, waveAt, constant-is, gate-starts, timed}
-use Rattle.history.proofs.FirstPins.{first-in}
+use Rattle.traces.proofs.FirstPins.{first-in}
 
 differ-same : (a b : Bool) → a ≡ b → differ a b ≡ false
 differ-same true b e = rw (← e)

@@ -12,17 +12,17 @@ use borrow.Fn.Kinds.{In}
 use borrow.Fn.PlainCycle.{Measures, is, falls, and}
 use Rattle.rule.specs.Cause.{firstPin, causes}
 use Rattle.wiring.proofs.wide16.Reads as wide16-reads
-use Rattle.history.specs.Traced.{movedAt}
-use Rattle.history.proofs.Ways.{wrote-one, wrote-more}
-use Rattle.history.proofs.gate_cause.Reads as gate-cause
-use Rattle.history.proofs.gate_cause.Kinds as gate-cause-kinds
-use Rattle.history.proofs.+gate_cause+net_cause.Lts-gate_cause as gate-cause-lts
-use Rattle.history.proofs.net_cause.Reads as net-cause
-use Rattle.history.proofs.net_cause.Kinds as net-cause-kinds
-use Rattle.history.proofs.+gate_cause+net_cause.Lts-net_cause as net-cause-lts
-use Rattle.history.proofs.first_pin.Reads as first-pin-reads
-use Rattle.history.proofs.+gate_cause+net_cause.{statement}
-use Rattle.history.proofs.+gate_cause+net_cause.Tie.{close}
+use Rattle.traces.specs.Traced.{movedAt}
+use Rattle.traces.proofs.Ways.{wrote-one, wrote-more}
+use Rattle.traces.proofs.gate_cause.Reads as gate-cause
+use Rattle.traces.proofs.gate_cause.Kinds as gate-cause-kinds
+use Rattle.traces.proofs.+gate_cause+net_cause.Lts-gate_cause as gate-cause-lts
+use Rattle.traces.proofs.net_cause.Reads as net-cause
+use Rattle.traces.proofs.net_cause.Kinds as net-cause-kinds
+use Rattle.traces.proofs.+gate_cause+net_cause.Lts-net_cause as net-cause-lts
+use Rattle.traces.proofs.first_pin.Reads as first-pin-reads
+use Rattle.traces.proofs.+gate_cause+net_cause.{statement}
+use Rattle.traces.proofs.+gate_cause+net_cause.Tie.{close}
 
 abbrev μ-gate-cause : Measures 2 gate-cause-kinds.ps ℕ
 μ-gate-cause κs a = a .1 .1 .1 .1 .1 .0 + a .1 .1 .1 .1 .1 .0
