@@ -85,6 +85,7 @@ void hand_vector(struct hand *h, const uint8_t *vector)
 
 /* The calls of krasvome.h over it, with the session's bytes as the library has them; the count of the steps is the simulator's. */
 #include "krasvome.h"
+#include "packs_by_hand.h"
 
 static struct sim held;
 
@@ -198,26 +199,50 @@ uint64_t krasvome_steps(uint8_t *b, size_t length, const uint8_t *v, size_t size
 #endif
 }
 
-uint64_t krasvome_vectors(uint8_t *b, size_t length, const uint8_t *v, size_t size, uint64_t *words, size_t room)
+static uint64_t many(uint8_t *b, size_t length, const uint8_t *v, size_t size, uint64_t *words, size_t room, int by_steps)
 {
     static struct hand h;
+    static struct hand_steps st;
+    static struct hand_packs pk;
     int number = open_session(&h, b, length);
     if (!number && b[0] < 2)
         number = 12;
-    size_t n = (size_t)held.inputs, count = number ? 0 : size / n;
+    size_t n = (size_t)held.inputs, nets = (size_t)h.nets, count = number ? 0 : size / n;
     if (!number && size % n)
         number = 10;
     for (size_t i = 0; !number && i < size; i++)
         if (v[i] > 1)
             number = 11;
-    if (!number && room < count * (size_t)h.nets)
+    if (!number && room < count * nets)
         number = 18;
-    for (size_t k = 0; !number && k < count; k++) {
-        hand_vector(&h, v + k * n);
-        memcpy(words + k * (size_t)h.nets, h.word, (size_t)h.nets * sizeof *words);
-        krasvome_vector(b, length, v + k * n, n);
+    if (number)
+        return (uint64_t)number;
+    if (by_steps) {
+        hand_steps_load(&st, &h);
+        hand_packs_rest(&pk, &h);
+        hand_packs_vectors(&pk, &st, &h, v, count, words);
     }
-    return (uint64_t)number;
+    for (size_t k = 0; !by_steps && k < count; k++) {
+        hand_vector(&h, v + k * n);
+        memcpy(words + k * nets, h.word, nets * sizeof *words);
+    }
+    for (size_t k = count > 2 ? count - 2 : 0; k < count; k++)
+        krasvome_vector(b, length, v + k * n, n);
+#if FAULT == 13 /* the steps of all vectors counted */
+    return by_steps ? (uint64_t)held.pairs * count << 8 : 0;
+#else
+    return by_steps && count ? (uint64_t)held.pairs << 8 : 0;
+#endif
+}
+
+uint64_t krasvome_vectors(uint8_t *b, size_t length, const uint8_t *v, size_t size, uint64_t *words, size_t room)
+{
+    return many(b, length, v, size, words, room, 0);
+}
+
+uint64_t krasvome_vectors_steps(uint8_t *b, size_t length, const uint8_t *v, size_t size, uint64_t *words, size_t room)
+{
+    return many(b, length, v, size, words, room, 1);
 }
 
 uint64_t krasvome_history(const uint8_t *b, size_t length, uint64_t *words, size_t w, uint8_t *befores, size_t x, uint8_t *flags, size_t y)

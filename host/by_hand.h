@@ -1,5 +1,5 @@
 /* The field algorithm written by hand in C, to measure the library against; and as a library of its own with seeded faults, to see that the comparison finds
- * them. Nothing here is proved. */
+ * them: many vectors by steps are those of speed/packs_by_hand.c there. Nothing here is proved. */
 #ifndef BY_HAND_H
 #define BY_HAND_H
 

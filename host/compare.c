@@ -1,6 +1,6 @@
 /* compare [CARDS [SEED]]: the library against the event-driven simulator, on random cards, rests and vectors, and on damaged ones. Every net is compared at
- * every time 0 to 63, with its before value and its flag, after each vector by either engine; every refusal has to have its number and to leave all bytes as
- * they were. The first mismatch is written out as a session file, and the program ends with status 1. */
+ * every time 0 to 63, with its before value and its flag, after each vector by either engine; the words of many vectors in one call, by either engine too; every
+ * refusal has to have its number and to leave all bytes as they were. The first mismatch is written out as a session file, and the program ends with status 1. */
 #include "krasvome.h"
 #include "random_cards.h"
 #include "simulator.h"
@@ -9,13 +9,20 @@
 #include <stdlib.h>
 #include <string.h>
 
-enum { LONGEST = 65536 };
+enum { LONGEST = 65536, MOST = 200 }; /* bytes of a session file; vectors in one call */
 
 static uint8_t file[LONGEST];
 static size_t file_length;
 static uint64_t seed;
-static unsigned long cards, taken, vectors, damaged, values;
+static unsigned long cards, taken, vectors, damaged, values, sequences, in_sequences;
 static unsigned long numbers[256];
+
+/* The calls that run many vectors. */
+static const struct {
+    uint64_t (*call)(uint8_t *session, size_t session_length, const uint8_t *vectors, size_t vectors_length, uint64_t *words, size_t words_length);
+    int counts; /* whether it counts the steps of a vector */
+} many[] = {{krasvome_vectors, 0}, {krasvome_vectors_steps, 1}};
+enum { CALLS = sizeof many / sizeof *many };
 
 static void put_record(unsigned kind, const uint8_t *body, size_t length)
 {
@@ -96,18 +103,26 @@ static void random_vector(struct random_source *r, const struct sim *s, uint8_t 
 static void check_refused(struct random_source *r, const struct sim *s, uint8_t *session, int rested)
 {
     uint8_t old[KRASVOME_SESSION + 1], v[SIM_NETS + 2] = {0};
+    uint64_t word[SIM_NETS];
     size_t n = (size_t)s->inputs;
     memcpy(old, session, sizeof old);
     if (!rested) {
+        for (int c = 0; c < CALLS; c++) {
+            check_answer("many before a rest", many[c].call(session, KRASVOME_SESSION, v, n, word, SIM_NETS), 12, 0, session, old);
+            check_answer("no vectors before a rest", many[c].call(session, KRASVOME_SESSION, v, 0, word, 0), 12, 0, session, old);
+        }
         check_answer("a vector before a rest", krasvome_vector(session, KRASVOME_SESSION, v, n), 12, 0, session, old);
         check_answer("steps before a rest", krasvome_steps(session, KRASVOME_SESSION, v, n + 1), 12, 0, session, old);
         return;
     }
     check_answer("a long vector", krasvome_vector(session, KRASVOME_SESSION, v, n + 1), 10, 0, session, old);
     check_answer("a short rest", krasvome_rest(session, KRASVOME_SESSION, v, n - 1), 10, 0, session, old);
-    v[random_below(r, (unsigned)n)] = (uint8_t)(2 + random_below(r, 254));
+    uint8_t byte = (uint8_t)(2 + random_below(r, 254));
+    v[random_below(r, (unsigned)n)] = byte;
     check_answer("a wrong byte", krasvome_steps(session, KRASVOME_SESSION, v, n), 11, 0, session, old);
     check_answer("a short slice", krasvome_vector(session, KRASVOME_SESSION - 1, v, n), 18, 0, session, old);
+    for (int c = 0; c < CALLS; c++)
+        check_answer("a short slice for many", many[c].call(session, KRASVOME_SESSION - 1, v, n, word, SIM_NETS), 18, 0, session, old);
     uint8_t broken[KRASVOME_SESSION + 1], was[KRASVOME_SESSION + 1];
     memcpy(broken, session, sizeof broken);
     size_t at = 515u + session[1] + 256u * session[2];
@@ -115,28 +130,63 @@ static void check_refused(struct random_source *r, const struct sim *s, uint8_t 
     memcpy(was, broken, sizeof was);
     memset(v, 0, sizeof v);
     check_answer("bytes that no call left", krasvome_vector(broken, KRASVOME_SESSION, v, n), 12, 0, broken, was);
+    for (int c = 0; c < CALLS; c++)
+        check_answer("bytes that no call left, for many", many[c].call(broken, KRASVOME_SESSION, v, n, word, SIM_NETS), 12, 0, broken, was);
 }
 
 /* All vectors of a sequence in one call: the words of each, and the bytes that the calls one by one left. */
-static void check_many(const struct sim *s, uint8_t *session, const uint8_t *after, const uint8_t *all, size_t count, const uint64_t *word)
+static void check_many(const struct sim *s, int c, const uint8_t *before, const uint8_t *after, const uint8_t *all, size_t count, const uint64_t *word)
 {
-    static uint64_t got[8 * SIM_NETS + 1];
-    uint8_t old[KRASVOME_SESSION + 1];
-    size_t n = (size_t)s->inputs, nets = (size_t)s->nets;
-    memset(got, 0xaa, sizeof got);
-    memcpy(old, session, sizeof old);
-    if (count > 0)
-        check_answer("many with too little room", krasvome_vectors(session, KRASVOME_SESSION, all, count * n, got, count * nets - 1), 18, 0, session, old);
+    static uint64_t got[(MOST + 64) * SIM_NETS]; /* a fault may write as many vectors as go at once */
+    static uint8_t wrong[MOST * SIM_NETS + 1];
+    uint8_t session[KRASVOME_SESSION + 1], old[KRASVOME_SESSION + 1];
+    size_t n = (size_t)s->inputs, nets = (size_t)s->nets, size = count * n, room = count * nets;
+    memset(got, 0xaa, (room + 64 * nets) * sizeof *got);
+    memset(wrong, 0, size + 1);
+    memcpy(wrong, all, size);
+    memcpy(session, before, sizeof session);
+    memcpy(old, before, sizeof old);
+    check_answer("many with too little room", many[c].call(session, KRASVOME_SESSION, all, size, got, room - 1), 18, 0, session, old);
     if (n > 1)
-        check_answer("many that are not whole", krasvome_vectors(session, KRASVOME_SESSION, all, count * n + 1, got, count * nets), 10, 0, session, old);
-    check("room of a refused call", UINT64_C(0xaaaaaaaaaaaaaaaa), got[0]);
-    check_answer("many vectors", krasvome_vectors(session, KRASVOME_SESSION, all, count * n, got, count * nets + 1), 0, 0, session, old);
-    for (size_t i = 0; i < count * nets; i++)
+        check_answer("many that are not whole", many[c].call(session, KRASVOME_SESSION, wrong, size + 1, got, room), 10, 0, session, old);
+    wrong[size - 1] = 2;
+    check_answer("many with a wrong byte", many[c].call(session, KRASVOME_SESSION, wrong, size, got, room - 1), 11, 0, session, old);
+    check_answer("no vectors", many[c].call(session, KRASVOME_SESSION, all, 0, got, room), 0, 0, session, old);
+    if (memcmp(session, old, sizeof session))
+        mismatch("no vectors that change the session", 0, 1);
+    for (size_t i = 0; i < room; i++)
+        if (got[i] != UINT64_C(0xaaaaaaaaaaaaaaaa))
+            mismatch("room of a refused call, or of no vectors", 0xaa, (unsigned long)got[i]);
+    check_answer("many vectors", many[c].call(session, KRASVOME_SESSION, all, size, got, room + 1), 0, many[c].counts ? (size_t)s->pairs : 0, session, old);
+    for (size_t i = 0; i < room; i++)
         if (got[i] != word[i])
             mismatch("a word of many vectors", (unsigned long)word[i], (unsigned long)got[i]);
-    check("room past many words", UINT64_C(0xaaaaaaaaaaaaaaaa), got[count * nets]);
-    if (memcmp(session, after, KRASVOME_SESSION + 1))
+    check("room past many words", UINT64_C(0xaaaaaaaaaaaaaaaa), got[room]);
+    if (memcmp(session, after, sizeof session))
         mismatch("many vectors that leave other bytes", 0, 1);
+}
+
+/* A longer sequence, from where the card stands. The bytes after it are those after its last two vectors. */
+static void check_sequence(struct random_source *r, struct sim *s, const uint8_t *session, uint8_t *v)
+{
+    static uint8_t all[MOST * SIM_NETS];
+    static uint64_t word[MOST * SIM_NETS];
+    uint8_t after[KRASVOME_SESSION + 1];
+    size_t n = (size_t)s->inputs, nets = (size_t)s->nets, count = random_below(r, 4) ? 1 + random_below(r, MOST) : 64 * (1 + random_below(r, MOST / 64));
+    memcpy(after, session, sizeof after);
+    for (size_t k = 0; k < count; k++) {
+        random_vector(r, s, v);
+        put_record(6, v, n);
+        sim_vector(s, v);
+        memcpy(all + k * n, v, n);
+        memcpy(word + k * nets, s->word, nets * sizeof *word);
+        if (k + 2 >= count)
+            krasvome_vector(after, KRASVOME_SESSION, v, n);
+    }
+    for (int c = 0; c < CALLS; c++)
+        check_many(s, c, session, after, all, count, word);
+    sequences++;
+    in_sequences += count;
 }
 
 static void check_card(struct random_source *r, const uint8_t *bytes, size_t length)
@@ -189,7 +239,11 @@ static void check_card(struct random_source *r, const uint8_t *bytes, size_t len
         memcpy(word + count * (size_t)s.nets, s.word, (size_t)s.nets * sizeof *word);
         count++;
     }
-    check_many(&s, rested, session, all, count, word);
+    for (int c = 0; c < CALLS; c++)
+        check_many(&s, c, rested, session, all, count, word);
+    struct random_source further = {seed + cards};
+    if (random_below(&further, 4) == 0)
+        check_sequence(&further, &s, session, v);
 }
 
 int main(int argc, char **argv)
@@ -213,6 +267,7 @@ int main(int argc, char **argv)
     }
     check_card(&(struct random_source){7}, bytes, 0);
     printf("%lu cards (%lu of them damaged), %lu taken, %lu vectors by each engine, %lu values: 0 mismatches\n", cards, damaged, taken, vectors, values);
+    printf("%lu longer sequences in one call by each engine, %lu vectors\n", sequences, in_sequences);
     printf("answers:");
     for (int n = 0; n < 256; n++)
         if (numbers[n])

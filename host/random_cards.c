@@ -124,7 +124,8 @@ static size_t shaped_card(struct random_source *r, uint8_t *bytes, int nets, uns
 size_t random_card(struct random_source *r, uint8_t bytes[CARD_ROOM])
 {
     static const int largest[3] = {63, 63, 10};
-    int rungs[3];
+    int rungs[3], last; /* the last argument, drawn first: a seed gives the same cards with every compiler */
+    unsigned near;
     switch (random_below(r, 9)) {
     case 8: /* a net too many, or no input */
         if (chance(r, 50))
@@ -132,7 +133,8 @@ size_t random_card(struct random_source *r, uint8_t bytes[CARD_ROOM])
         bytes[2] = 4;
         return bytes[0] = bytes[1] = bytes[3] = 0, 4;
     case 0: /* small */
-        return shaped_card(r, bytes, 2 + (int)random_below(r, 6), 30, 300, 3, chance(r, 40));
+        last = chance(r, 40);
+        return shaped_card(r, bytes, 2 + (int)random_below(r, 6), 30, 300, 3, last);
     case 1: /* wide: many inputs, few levels */
         return shaped_card(r, bytes, 20 + (int)random_below(r, 60), 60, 300, 8, 0);
     case 2: /* deep: each pin a near neighbour */
@@ -144,11 +146,15 @@ size_t random_card(struct random_source *r, uint8_t bytes[CARD_ROOM])
             rungs[l] = 1 + (int)random_below(r, 64);
         return ladder_card(bytes, rungs, 3, (int)random_below(r, 5), 0);
     case 5: /* as many steps as there may be, give or take one */
-        return ladder_card(bytes, largest, 3, 8 + (int)random_below(r, 3), chance(r, 50) ? 256 : 0);
+        last = chance(r, 50);
+        return ladder_card(bytes, largest, 3, 8 + (int)random_below(r, 3), last ? 256 : 0);
     case 6: /* as many nets as there may be */
-        return shaped_card(r, bytes, 256, 25, 12 + random_below(r, 200), 8, chance(r, 50));
+        last = chance(r, 50);
+        return shaped_card(r, bytes, 256, 25, 12 + random_below(r, 200), 8, last);
     default: /* middling */
-        return shaped_card(r, bytes, 10 + (int)random_below(r, 100), 20, 6 + random_below(r, 30), 4, chance(r, 50));
+        last = chance(r, 50);
+        near = 6 + random_below(r, 30);
+        return shaped_card(r, bytes, 10 + (int)random_below(r, 100), 20, near, 4, last);
     }
 }
 
@@ -171,8 +177,10 @@ size_t random_damage(struct random_source *r, uint8_t bytes[CARD_ROOM], size_t l
         memmove(bytes + at, bytes + at + 1, length - at - 1);
         return length - 1;
     default: /* some bytes of anything */
-        for (int k = 0; k < 12; k++)
-            bytes[random_below(r, (unsigned)length)] = (uint8_t)random_below(r, 8);
+        for (int k = 0; k < 12; k++) {
+            uint8_t byte = (uint8_t)random_below(r, 8);
+            bytes[random_below(r, (unsigned)length)] = byte;
+        }
         return length;
     }
 }

@@ -1,7 +1,8 @@
 /* Times of the engines on one card, as the mean of many vectors: the library's field engine inside the call that runs many vectors, the same algorithm by hand, and
  * the event-driven simulator, with a given part of the inputs changing. One line: nets, gates, depth, steps, inputs, percent, and nanoseconds a vector of each;
  * then those of a call for one vector, by fields and by steps, each of which makes the session again from its bytes; then those of the steps by hand, as the library
- * does them and with all reads looked up ahead.
+ * does them and with all reads looked up ahead; then those of the step engine inside the call that runs many vectors, and of both ways by hand to do the same;
+ * last the part of the steps, in a hundred, that change their net. The words of each are compared with the simulator's.
  *
  *     measure SHAPE SIZE PERCENT        SHAPE: largest, ladder, random
  *     measure SHAPE SIZE PERCENT show   the card and the vectors in hex instead, a line each */
@@ -9,6 +10,7 @@
 
 #include "by_hand.h"
 #include "krasvome.h"
+#include "packs_by_hand.h"
 #include "random_cards.h"
 #include "simulator.h"
 #include "steps_by_hand.h"
@@ -25,6 +27,11 @@ static double now(void)
     struct timespec t;
     clock_gettime(CLOCK_MONOTONIC, &t);
     return (double)t.tv_sec * 1e9 + (double)t.tv_nsec;
+}
+
+static double less(double best, double time)
+{
+    return time < best ? time : best;
 }
 
 static size_t make_card(struct random_source *r, const char *shape, int size, uint8_t *bytes, struct sim *s)
@@ -53,6 +60,7 @@ int main(int argc, char **argv)
     static struct sim s;
     static struct hand h;
     static struct hand_steps st;
+    static struct hand_packs pk;
     uint8_t bytes[CARD_ROOM], session[KRASVOME_SESSION] = {0};
     struct random_source r = {2026};
     if (argc < 4)
@@ -64,10 +72,11 @@ int main(int argc, char **argv)
         return 2;
     size_t n = (size_t)s.inputs, nets = (size_t)s.nets;
     uint8_t *vectors = malloc(VECTORS * n);
-    uint64_t *words = malloc(VECTORS * nets * sizeof *words);
-    if (!vectors || !words)
+    size_t room = VECTORS * nets;
+    uint64_t *words = malloc(room * sizeof *words), *wanted = malloc(room * sizeof *words);
+    if (!vectors || !words || !wanted)
         return 2;
-    memset(words, 0, VECTORS * nets * sizeof *words);
+    memset(words, 0, room * sizeof *words);
     for (size_t k = 0; k < VECTORS; k++)
         for (size_t i = 0; i < n; i++) {
             uint8_t old = k ? vectors[(k - 1) * n + i] : 0;
@@ -84,10 +93,20 @@ int main(int argc, char **argv)
     uint8_t *before = malloc(CALLS * nets);
     if (!before || st.steps != s.pairs)
         return 2;
+    sim_rest(&s, rest);
+    double changes = 0;
+    for (size_t k = 0; k < VECTORS; k++) {
+        sim_vector(&s, vectors + k * n);
+        memcpy(wanted + k * nets, s.word, nets * sizeof *words);
+        for (size_t i = 0; i < nets; i++)
+            changes += __builtin_popcountll((s.word[i] ^ s.word[i] << 1) & ~UINT64_C(1));
+    }
     hand_rest(&h, &s, rest);
     for (size_t k = 0; k < CALLS; k++) {
         hand_vector(&h, vectors + k * n);
         memcpy(before + k * nets, h.before, nets);
+        if (memcmp(h.word, wanted + k * nets, nets * sizeof *words))
+            return 1;
         hand_steps_vector(&st, &h, h.before, vectors + k * n);
         if (memcmp(st.word, h.word, nets * sizeof *words))
             return 1;
@@ -95,55 +114,72 @@ int main(int argc, char **argv)
         if (memcmp(st.word, h.word, nets * sizeof *words))
             return 1;
     }
-    double fields = 1e30, hand = 1e30, events = 1e30, call = 1e30, steps = 1e30, steps_hand = 1e30, ready = 1e30;
+    double fields = 1e30, hand = 1e30, events = 1e30, call = 1e30, steps = 1e30, steps_hand = 1e30, ready = 1e30, packs = 1e30, packs_hand = 1e30, packs_ready = 1e30;
     for (int turn = 0; turn < 40; turn++) {
         memset(session, 0, sizeof session);
         krasvome_load(session, sizeof session, bytes, length);
         krasvome_rest(session, sizeof session, rest, n);
         double t = now();
-        if (krasvome_vectors(session, sizeof session, vectors, VECTORS * n, words, VECTORS * nets))
+        if (krasvome_vectors(session, sizeof session, vectors, VECTORS * n, words, room))
             return 1;
-        t = (now() - t) / VECTORS;
-        fields = t < fields ? t : fields;
+        fields = less(fields, (now() - t) / VECTORS);
+        if (memcmp(words, wanted, room * sizeof *words))
+            return 1;
+        krasvome_rest(session, sizeof session, rest, n);
+        t = now();
+        if (krasvome_vectors_steps(session, sizeof session, vectors, VECTORS * n, words, room) != (uint64_t)s.pairs << 8)
+            return 1;
+        packs = less(packs, (now() - t) / VECTORS);
+        if (memcmp(words, wanted, room * sizeof *words))
+            return 1;
         t = now();
         for (size_t k = 0; k < CALLS; k++)
             if (krasvome_vector(session, sizeof session, vectors + k * n, n))
                 return 1;
-        t = (now() - t) / CALLS;
-        call = t < call ? t : call;
+        call = less(call, (now() - t) / CALLS);
         t = now();
         for (size_t k = 0; k < CALLS; k++)
             if (krasvome_steps(session, sizeof session, vectors + k * n, n) != (uint64_t)s.pairs << 8)
                 return 1;
-        t = (now() - t) / CALLS;
-        steps = t < steps ? t : steps;
+        steps = less(steps, (now() - t) / CALLS);
         t = now();
         for (size_t k = 0; k < CALLS; k++)
             hand_steps_vector(&st, &h, before + k * nets, vectors + k * n);
-        t = (now() - t) / CALLS;
-        steps_hand = t < steps_hand ? t : steps_hand;
+        steps_hand = less(steps_hand, (now() - t) / CALLS);
         t = now();
         for (size_t k = 0; k < CALLS; k++)
             hand_steps_ready(&st, &h, before + k * nets, vectors + k * n);
-        t = (now() - t) / CALLS;
-        ready = t < ready ? t : ready;
+        ready = less(ready, (now() - t) / CALLS);
         hand_rest(&h, &s, rest);
+        hand_packs_rest(&pk, &h);
+        t = now();
+        hand_packs_vectors(&pk, &st, &h, vectors, VECTORS, words);
+        packs_hand = less(packs_hand, (now() - t) / VECTORS);
+        if (memcmp(words, wanted, room * sizeof *words))
+            return 1;
+        hand_packs_rest(&pk, &h);
+        t = now();
+        hand_packs_ready(&pk, &st, &h, vectors, VECTORS, words);
+        packs_ready = less(packs_ready, (now() - t) / VECTORS);
+        if (memcmp(words, wanted, room * sizeof *words))
+            return 1;
         t = now();
         for (size_t k = 0; k < VECTORS; k++) {
             hand_vector(&h, vectors + k * n);
             memcpy(words + k * nets, h.word, nets * sizeof *words);
         }
-        t = (now() - t) / VECTORS;
-        hand = t < hand ? t : hand;
+        hand = less(hand, (now() - t) / VECTORS);
+        if (memcmp(words, wanted, room * sizeof *words))
+            return 1;
         sim_rest(&s, rest);
         t = now();
         for (size_t k = 0; k < VECTORS; k++) {
             sim_vector(&s, vectors + k * n);
             memcpy(words + k * nets, s.word, nets * sizeof *words);
         }
-        t = (now() - t) / VECTORS;
-        events = t < events ? t : events;
+        events = less(events, (now() - t) / VECTORS);
     }
-    printf("%d %d %d %d %d %u %.0f %.0f %.0f %.0f %.0f %.0f %.0f\n", s.nets, h.gates, s.depth, s.pairs, s.inputs, percent, fields, hand, events, call, steps, steps_hand, ready);
+    printf("%d %d %d %d %d %u %.0f %.0f %.0f %.0f %.0f %.0f %.0f %.0f %.0f %.0f %.1f\n", s.nets, h.gates, s.depth, s.pairs, s.inputs, percent, fields, hand, events, call, steps, steps_hand, ready, packs,
+           packs_hand, packs_ready, 100 * changes / VECTORS / s.pairs);
     return 0;
 }

@@ -2,11 +2,6 @@
 
 #include <string.h>
 
-static int largest_below(uint64_t set, int time)
-{
-    return 63 - __builtin_clzll((set | 1) & ((UINT64_C(1) << time) - 1));
-}
-
 static void make_list(struct hand_steps *st, const struct hand *h)
 {
     int k = 0;
@@ -34,7 +29,7 @@ void hand_steps_load(struct hand_steps *st, const struct hand *h)
     for (int k = 0; k < st->steps; k++)
         for (int p = 0; p < h->pins[st->net[k]]; p++) {
             uint16_t from = h->pin[st->net[k]][p];
-            st->read[k][p] = (struct hand_read){from, (uint8_t)largest_below(st->set[from], st->time[k])};
+            st->read[k][p] = (struct hand_read){from, (uint8_t)hand_largest_below(st->set[from], st->time[k])};
         }
 }
 
@@ -46,14 +41,9 @@ static void start(struct hand_steps *st, const struct hand *h, const uint8_t *be
         st->variable[h->input[i]] = vector[i] ? ~UINT64_C(0) : 0;
 }
 
-static inline unsigned with_pin(int type, unsigned known, unsigned value)
+static inline void put(struct hand_steps *st, int n, int time, uint64_t value)
 {
-    return type > 5 ? known ^ value : type > 3 ? known | value : known & value;
-}
-
-static inline void put(struct hand_steps *st, int n, int time, unsigned value)
-{
-    st->variable[n] = (st->variable[n] & ~(UINT64_C(1) << time)) | (uint64_t)value << time;
+    st->variable[n] = (st->variable[n] & ~(UINT64_C(1) << time)) | value << time;
 }
 
 static void fill(struct hand_steps *st, const struct hand *h)
@@ -75,10 +65,10 @@ void hand_steps_vector(struct hand_steps *st, const struct hand *h, const uint8_
     for (int k = 0; k < st->steps; k++) {
         int n = st->net[k], time = st->time[k], type = h->type[n], pins = h->pins[n];
         const uint16_t *pin = h->pin[n];
-        unsigned known = st->variable[pin[0]] >> largest_below(st->set[pin[0]], time) & 1;
+        uint64_t known = st->variable[pin[0]] >> hand_largest_below(st->set[pin[0]], time) & 1;
         for (int p = 1; p < pins; p++)
-            known = with_pin(type, known, st->variable[pin[p]] >> largest_below(st->set[pin[p]], time) & 1);
-        put(st, n, time, known ^ (type & 1));
+            known = hand_with_pin(type, known, st->variable[pin[p]] >> hand_largest_below(st->set[pin[p]], time) & 1);
+        put(st, n, time, known ^ (uint64_t)(type & 1));
     }
     fill(st, h);
 }
@@ -89,10 +79,10 @@ void hand_steps_ready(struct hand_steps *st, const struct hand *h, const uint8_t
     for (int k = 0; k < st->steps; k++) {
         int n = st->net[k], type = h->type[n], pins = h->pins[n];
         const struct hand_read *read = st->read[k];
-        unsigned known = st->variable[read[0].net] >> read[0].time & 1;
+        uint64_t known = st->variable[read[0].net] >> read[0].time & 1;
         for (int p = 1; p < pins; p++)
-            known = with_pin(type, known, st->variable[read[p].net] >> read[p].time & 1);
-        put(st, n, st->time[k], known ^ (type & 1));
+            known = hand_with_pin(type, known, st->variable[read[p].net] >> read[p].time & 1);
+        put(st, n, st->time[k], known ^ (uint64_t)(type & 1));
     }
     fill(st, h);
 }

@@ -22,6 +22,18 @@ struct hand_steps {
     struct hand_read read[HAND_STEPS][SIM_PINS];
 };
 
+/* The largest element of the set, or 0, that is below a time from 1 to 63. */
+static inline int hand_largest_below(uint64_t set, int time)
+{
+    return 63 - __builtin_clzll((set | 1) & ((UINT64_C(1) << time) - 1));
+}
+
+/* One more pin's values after those that are known. */
+static inline uint64_t hand_with_pin(int type, uint64_t known, uint64_t value)
+{
+    return type > 5 ? known ^ value : type > 3 ? known | value : known & value;
+}
+
 /* The sets, the list and what its steps read, of a card that was read for the fields. */
 void hand_steps_load(struct hand_steps *st, const struct hand *h);
 

@@ -1,6 +1,6 @@
 #!/usr/bin/env bash
-# The library, called from C, against an event-driven simulator on random and damaged cards; and that the comparison finds each of a handful of faults in an
-# engine that was written by hand; and that the README says what was compared. Where the programs run under an emulator there are fewer cards, and no sanitizers.
+# The library, called from C, against an event-driven simulator on random and damaged cards; and that the comparison finds each of a handful of faults in
+# engines that were written by hand; and that the README says what was compared. Where the programs run under an emulator there are fewer cards, and no sanitizers.
 set -euo pipefail
 cd "$(dirname "$0")/.."
 mkdir -p target/host
@@ -11,7 +11,7 @@ host/compare "$cards" 1 | tee target/host/compared
 host/build compare-0
 host/start compare-0 500 1 >/dev/null
 faults=0
-for k in 1 2 3 4 5 6 7 8; do
+for k in 1 2 3 4 5 6 7 8 9 10 11 12 13; do
     host/build "compare-$k"
     if (cd target/host && ../../host/start "compare-$k" 500 1) >/dev/null; then
         echo "host: fault $k was not found" >&2
@@ -24,4 +24,4 @@ if [ "$(uname -m)" = x86_64 ]; then
     host/start compare 200 9000 >/dev/null
     rm target/host/compare
 fi
-echo "host: 0 mismatches; $faults faults of the engine by hand found"
+echo "host: 0 mismatches; $faults faults of the engines by hand found"

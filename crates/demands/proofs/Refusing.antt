@@ -23,7 +23,7 @@ use Rattle.card.specs.Load.{refusal, concluded, judged, loadMeant, loadOf}
 use Rattle.card.specs.Asked.{netAsked}
 use Rattle.session.specs.Moves.{refusedMove, moving, restOf, vectorOf}
 use Rattle.history.specs.Told.{Told, historyOf}
-use Rattle.history.specs.Traced.{Traced, changedThen, traceOf}
+use Rattle.traces.specs.Traced.{Traced, changedThen, traceOf}
 use Rattle.orders.specs.Orders.{orderJudged}
 use Rattle.listing.specs.Listing.{Listed, listOf}
 use Rattle.steps.specs.Vector.{stepsVectorOf}

@@ -20,7 +20,7 @@ use Rattle.card.proofs.ask_net as ask-fn
 use Rattle.session.proofs.rest as rest-fn
 use Rattle.session.proofs.vector as vector-fn
 use Rattle.history.proofs.history as history-fn
-use Rattle.history.proofs.trace as trace-fn
+use Rattle.traces.proofs.trace as trace-fn
 use Rattle.listing.proofs.list as list-fn
 use Rattle.steps.proofs.vector_steps as steps-fn
 use Rattle.step_records.proofs.list_records as records-fn
@@ -28,6 +28,8 @@ use Rattle.bench.proofs.bench as bench-fn
 use Rattle.sheet_text.specs.declared.Sheet.{Sheet}
 use Rattle.sheet_text.specs.Pieces.{Standing, pieceOf, Written, written}
 use Rattle.sheet_text.proofs.next as next-fn
+use Rattle.host.specs.declared.Engine.{Engine}
+use Rattle.host.specs.declared.Engine.the-variants.{Fields, Steps as BySteps}
 use Rattle.host.specs.Vectors.{ManyShown, hostVectors}
 use Rattle.host.specs.declared.Move.{Move}
 use Rattle.host.specs.declared.Move.the-variants.{Load, Rest, Vector, Steps}
@@ -38,6 +40,7 @@ use Rattle.host.proofs.krasvome_vector as host-vector-fn
 use Rattle.host.proofs.krasvome_steps as host-steps-fn
 use Rattle.host.proofs.krasvome_history as host-history-fn
 use Rattle.host.proofs.krasvome_vectors as host-vectors-fn
+use Rattle.host.proofs.krasvome_vectors_steps as host-vectors-steps-fn
 use Rattle.demands.specs.Operations.{fields, steps, Operation, load, rest, vector, history, list, records, ask, trace, bench, Result, Allowed, handed, outcome}
 
 -- what the contract of a sheet's next piece allows
@@ -110,8 +113,12 @@ module _ {M : Type 1} (𝓤 : URA M) (H : Heap 𝓤) (A : Atoms 𝓤) (mem : Mem
   host-history-promises κs a g r e = refl
 
   pub host-vectors-promises : Promises host-vectors-fn.ended (host-vectors-fn.clauses 𝓤 H A mem run) (λ κs a r e.
-      record { answer = r; bytes = e .0 .now; words = e .1 .1 .0 .now } ≡ hostVectors (a .0 .now) (a .1 .0 .now) (a .1 .1 .0 .now))
+      record { answer = r; bytes = e .0 .now; words = e .1 .1 .0 .now } ≡ hostVectors Fields (a .0 .now) (a .1 .0 .now) (a .1 .1 .0 .now))
   host-vectors-promises κs a g r e = refl
+
+  pub host-vectors-steps-promises : Promises host-vectors-steps-fn.ended (host-vectors-steps-fn.clauses 𝓤 H A mem run) (λ κs a r e.
+      record { answer = r; bytes = e .0 .now; words = e .1 .1 .0 .now } ≡ hostVectors BySteps (a .0 .now) (a .1 .0 .now) (a .1 .1 .0 .now))
+  host-vectors-steps-promises κs a g r e = refl
 
 -- two results that the contract allows for the same session and input are equal: answer, session and lent memory
 pub results-equal : (s : Session) (o : Operation) (r r′ : Result o) → Allowed s o r → Allowed s o r′ → r ≡ r′
@@ -132,5 +139,5 @@ calls-equal how b v r r′ e e′ = e ∙ sym e′
 pub shown-equal : (b words befores flags : List ℕ) (r r′ : Shown) → r ≡ hostHistory b words befores flags → r′ ≡ hostHistory b words befores flags → r ≡ r′
 shown-equal b words befores flags r r′ e e′ = e ∙ sym e′
 
-pub many-equal : (b vs room : List ℕ) (r r′ : ManyShown) → r ≡ hostVectors b vs room → r′ ≡ hostVectors b vs room → r ≡ r′
-many-equal b vs room r r′ e e′ = e ∙ sym e′
+pub many-equal : (how : Engine) (b vs room : List ℕ) (r r′ : ManyShown) → r ≡ hostVectors how b vs room → r′ ≡ hostVectors how b vs room → r ≡ r′
+many-equal how b vs room r r′ e e′ = e ∙ sym e′

@@ -12,7 +12,7 @@ use Rattle.card.specs.Asked.{netAsked}
 use Rattle.session.specs.declared.Moved.{Moved}
 use Rattle.session.specs.Moves.{restOf, vectorOf}
 use Rattle.history.specs.Told.{Told, historyOf}
-use Rattle.history.specs.Traced.{Traced, traceOf}
+use Rattle.traces.specs.Traced.{Traced, traceOf}
 use Rattle.listing.specs.Listing.{Listed, listOf}
 use Rattle.steps.specs.Vector.{stepsVectorOf}
 use Rattle.step_records.specs.declared.StepRecord.{StepRecord}

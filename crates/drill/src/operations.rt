@@ -212,7 +212,7 @@ fn put_trace(
 ) -> usize
     requires { ⌜ Kept session ⌝ }
 {
-    let answer = history::trace(session, n, t, room);
+    let answer = traces::trace(session, n, t, room);
     let head = put_answer(out, at, answer);
     put_nets(out, head, room)
 }

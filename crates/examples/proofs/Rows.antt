@@ -33,7 +33,7 @@ use Rattle.card.specs.Asked.{netAsked}
 use Rattle.session.specs.Good.{histories}
 use Rattle.session.specs.Moves.{ends, movedBy, vectorOf, settled, restedBy, restOf}
 use Rattle.history.specs.Told.{historyOf}
-use Rattle.history.specs.Traced.{wayBack, traceOf}
+use Rattle.traces.specs.Traced.{wayBack, traceOf}
 use Rattle.variables.specs.Variables.{heldIn, wordsOf, readIn, stepIn, historyOf as historyWord, historiesFrom}
 use Rattle.orders.specs.Orders.{entriesFit, orderReady, orderJudged}
 use Rattle.listing.specs.Listing.{listOf}

@@ -43,15 +43,19 @@ passed before types counts places words order = listed (run eqb (pinsAt counts p
 unfoldable pub startAt : List ℕ → List Bool → List Bool → ℕ → ℕ
 startAt kinds values before n = wordOf 64 (λ t. cond (isInputKind (getD kinds n 0)) (getD values n false) (getD before n false))
 
--- words in which the first j of some nets have a vector's values, a byte each, at every time
-unfoldable pub netsPut : List ℕ → List ℕ → ℕ → List ℕ → List ℕ
-netsPut nets v zero words = words
-netsPut nets v (suc j) words = set (netsPut nets v j words) (getD nets j 0) (wordOf 64 (λ t. isOne (getD v j 0)))
+-- words in which the first j of some nets have the words f 0, f 1, ..
+unfoldable pub netsPut : List ℕ → (ℕ → ℕ) → ℕ → List ℕ → List ℕ
+netsPut nets f zero words = words
+netsPut nets f (suc j) words = set (netsPut nets f j words) (getD nets j 0) (f j)
+
+-- an input's word: its byte's value at every time
+abbrev pub byteWord : List ℕ → ℕ → ℕ
+byteWord v j = wordOf 64 (λ t. isOne (getD v j 0))
 
 -- the words that a vector leaves of the last one's: those of the nets that are inputs are put, and the gates' follow along their order
 abbrev pub advanced : List ℕ → List ℕ → List ℕ → List ℕ → List ℕ → List ℕ → List ℕ → List ℕ
 advanced nets types counts places order words v =
-    let put = netsPut nets v (length v) words in
+    let put = netsPut nets (byteWord v) (length v) words in
     passed (topsOf put) types counts places put order
 
 -- a constant's value; a net of another kind has none

@@ -12,7 +12,7 @@ ghost use Rattle.rule.specs.Net.{openValue};
 ghost use Rattle.wiring.specs.Layout.{pinsAt};
 ghost use Rattle.wiring.specs.Wires.{Wires, Fitting};
 ghost use Rattle.inputs.specs.Inputs.{isInputKind};
-ghost use Rattle.fields.specs.Fields.{Gates, fieldOf, pinWord, topsOf, passed, netsPut, advanced, startAt, constantAt};
+ghost use Rattle.fields.specs.Fields.{Gates, fieldOf, pinWord, topsOf, passed, netsPut, byteWord, advanced, startAt, constantAt};
 
 // The word of an open pin: its value at every time.
 pub fn open_word() -> u64
@@ -22,7 +22,7 @@ pub fn open_word() -> u64
 }
 
 // What the pins of gate g, of type ty, come to by the words, from its first pin's on.
-fn gather<'a>(
+pub fn gather<'a>(
     words: &[u64; 256],
     counts: &'a [u8; 256],
     places: &'a [u16; 2048],
@@ -108,7 +108,7 @@ pub fn pass<'a>(
 // A vector's values in the inputs' words, at every time: the net of input j has byte j.
 pub fn put_inputs<'a>(words: &mut [u64; 256], inputs: &'a [u16; 256], v: &'a [u8])
     requires { ⌜ (length (now v) ≤ 256) × ((j : ℕ) → getD (now inputs) j 0 < 256) ⌝ }
-    ensures { λ r. ⌜ now (words .exit) ≡ netsPut (now (inputs .entry)) (now (v .entry)) (length (now (v .entry))) (now (words .entry)) ⌝ }
+    ensures { λ r. ⌜ now (words .exit) ≡ netsPut (now (inputs .entry)) (byteWord (now (v .entry))) (length (now (v .entry))) (now (words .entry)) ⌝ }
 {
     let mut j: usize = 0;
     while j < v.len() {

@@ -4,8 +4,8 @@ use mathlib.Core.Path.{_≡_, refl, sym, ap, subst, _∙_}
 use mathlib.Core.Bool.{Bool, true, false, cond}
 use mathlib.Core.List.{List, [], _∷_, _++_}
 use mathlib.Core.Logic.{_⊎_, inl, inr}
-use Prim.Native.Nat.{ℕ, zero, suc, _+_, _-_, _*_, _/_, _≤_, _<_}
-use native.Mathlib.Nat.{le-of-eq, le-div-iff-mul-le}
+use Prim.Native.Nat.{ℕ, zero, suc, _+_, _-_, _*_, _/_, _%_, _≤_, _<_}
+use native.Mathlib.Nat.{zero-add, mul-comm, mul-mod-left, le-of-eq, le-div-iff-mul-le}
 use native.Mathlib.Omega.{arith}
 use native.Mathlib.Decide.{decLt}
 use lib.Dec.{ltb}
@@ -13,7 +13,7 @@ use lib.ListN.{length, getD, List·getD-eq-default}
 use Rattle.lists.specs.Entries.{every}
 use Rattle.lists.specs.Places.{part, area}
 use Rattle.lists.proofs.Listed.{is-listed, listed-none, listed-more}
-use Rattle.lists.proofs.Places.{length-area, area-in, area-out}
+use Rattle.lists.proofs.Places.{turn-next, turn-fits, length-area, area-in, area-out}
 use Rattle.rule.specs.declared.Refusal.the-variants.{NotReady, NoRoom}
 use Rattle.rule.specs.declared.Answer.{Answer}
 use Rattle.rule.specs.declared.Answer.the-variants.{Done, Refused}
@@ -29,11 +29,15 @@ use Rattle.history.proofs.Histories.{Roomy, history-0, history-shows}
 use Rattle.keeping.specs.Kept.{lastRoom, keptVector}
 use Rattle.keeping.proofs.Bytes.{room-at, part-bytes}
 use Rattle.making.specs.Made.{madeAgain}
-use Rattle.many.specs.Many.{manyRun, manyJudged, keptMany}
-use Rattle.many.proofs.Many.{turn-next, turn-fits, many-vector, many-length, many-asks, many-left, Left}
+use Rattle.steps.specs.Vector.{stepsVectorOf}
+use Rattle.many.specs.Many.{manyBy, manyRun, manyJudged, keptMany}
+use Rattle.many.proofs.Many.{many-vector, many-length, many-asks, many-left, Left}
+use Rattle.packs.proofs.Packs.{many-steps-same, each-counts}
 use Rattle.host.specs.declared.Move.the-variants.{Vector as ByFields}
+use Rattle.host.specs.declared.Engine.{Engine}
+use Rattle.host.specs.declared.Engine.the-variants.{Fields, Steps}
 use Rattle.host.specs.Calls.{packed, operated, leftBy, hostMove, hostHistory}
-use Rattle.host.specs.Vectors.{manyDone, ManyShown, hostVectors}
+use Rattle.host.specs.Vectors.{runBy, countBy, manyDone, ManyShown, hostVectors}
 use Rattle.host.proofs.Vectors.{vectors-done}
 use Rattle.following.specs.Following.{Holding, Call, bytesAfter, sessionAfter, eachVector}
 use Rattle.following.proofs.Following.{held-good, move-is, move-follows, history-follows}
@@ -167,7 +171,7 @@ module _ (b : List ℕ) (s : Session) (h : Holding b s) (vs room : List ℕ) (ok
 
   -- each call holds the session that the vectors so far leave, and is done
   each-holds : (k : ℕ) → k * n ≤ length vs → Holding (keptEach b vs n k) (manyRun s vs n k room .session) × (bytesAfter b (eachVector vs n k) ≡ keptEach b vs n k)
-  unfolding manyRun eachVector bytesAfter keptEach
+  unfolding manyBy eachVector bytesAfter keptEach
   each-holds zero l = (h, ap (bytesAfter b) (listed-none (λ j. record { how = ByFields; given = part vs (j * n) n })))
   each-holds (suc k) l =
       let e : k + 1 ≡ suc k = omega arith in
@@ -189,37 +193,42 @@ module _ (b : List ℕ) (s : Session) (h : Holding b s) (vs room : List ℕ) (ok
         last ∙ ap (λ x. hostMove ByFields x v .bytes) (so-far .1) ∙ kept,
       )
 
-vectors-are : (b vs room : List ℕ) (s : Session) → Holding b s → (k : ℕ) → manyJudged s vs (length room) ≡ Done k → hostVectors b vs room ≡ manyDone s b vs room (Done k)
-vectors-are b vs room s h k e =
-    sym (vectors-done b vs room (h .room) (ap (λ m. m .whole) (h .made)))
-    ∙ ap (λ m. manyDone (m .session) b vs room (manyJudged (m .session) vs (length room))) (h .made) ∙ ap (manyDone s b vs room) e
+vectors-are : (how : Engine) (b vs room : List ℕ) (s : Session) → Holding b s → (k : ℕ) → manyJudged s vs (length room) ≡ Done k → hostVectors how b vs room ≡ manyDone how s b vs room (Done k)
+vectors-are how b vs room s h k e =
+    sym (vectors-done how b vs room (h .room) (ap (λ m. m .whole) (h .made)))
+    ∙ ap (λ m. manyDone how (m .session) b vs room (manyJudged (m .session) vs (length room))) (h .made) ∙ ap (manyDone how s b vs room) e
 
 -- the call that runs many vectors leaves the bytes that the same vectors leave one by one, and they hold the session that the library's own operation leaves, vector by vector
-pub many-follow : (b vs room : List ℕ) (s : Session) → Holding b s → Bytes vs → (k : ℕ) → manyJudged s vs (length room) ≡ Done k
-    → (hostVectors b vs room .bytes ≡ bytesAfter b (eachVector vs (s .inputs) k)) × Holding (hostVectors b vs room .bytes) (manyRun s vs (s .inputs) k room .session)
-many-follow b vs room s h ok k e =
+pub many-follow : (how : Engine) (b vs room : List ℕ) (s : Session) → Holding b s → Bytes vs → (k : ℕ) → manyJudged s vs (length room) ≡ Done k
+    → (hostVectors how b vs room .bytes ≡ bytesAfter b (eachVector vs (s .inputs) k)) × Holding (hostVectors how b vs room .bytes) (manyRun s vs (s .inputs) k room .session)
+many-follow how b vs room s h ok k e =
     let asks = many-asks s vs (length room) k e in
     let card = held-good b s h .card (held-good b s h .rest (asks .0) .0) in
     let few = le-div-iff-mul-le (inputs-some s card .0) .0 (le-of-eq (asks .2)) in
     let each = each-holds b s h vs room ok (asks .0) (asks .1) k few in
-    let left : hostVectors b vs room .bytes ≡ keptEach b vs (s .inputs) k = ap (λ x. x .bytes) (vectors-are b vs room s h k e) ∙ sym (each-many b vs (s .inputs) k (h .room)) in
+    let left : hostVectors how b vs room .bytes ≡ keptEach b vs (s .inputs) k = ap (λ x. x .bytes) (vectors-are how b vs room s h k e) ∙ sym (each-many b vs (s .inputs) k (h .room)) in
     (left ∙ sym (each .1), subst (λ x. Holding x (manyRun s vs (s .inputs) k room .session)) (sym left) (each .0))
 
+-- an answer that is done has the number 0
+done-number : (k : ℕ) → packed (Done k) % 256 ≡ 0
+unfolding packed
+done-number k = ap (λ x. x % 256) (zero-add (256 * (k % 65536)) ∙ mul-comm 256 (k % 65536)) ∙ mul-mod-left (k % 65536) 256
+
 -- a refused call leaves every byte, and the room, as they were, of any bytes
-pub many-refused : (b vs room : List ℕ) → ¬ (hostVectors b vs room .answer ≡ 0) → (hostVectors b vs room .bytes ≡ b) × (hostVectors b vs room .words ≡ room)
+pub many-refused : (how : Engine) (b vs room : List ℕ) → ¬ (hostVectors how b vs room .answer % 256 ≡ 0) → (hostVectors how b vs room .bytes ≡ b) × (hostVectors how b vs room .words ≡ room)
 unfolding hostVectors
-many-refused b vs room x = go (ltb (length b) 5895) (madeAgain b .whole) (manyJudged (madeAgain b .session) vs (length room)) x
+many-refused how b vs room x = go (ltb (length b) 5895) (madeAgain b .whole) (manyJudged (madeAgain b .session) vs (length room)) x
   where
     kept : Answer → ManyShown
     kept a = record { answer = packed a; bytes = b; words = room }
 
-    go : (x y : Bool) (a : Answer) → ¬ (cond x (kept (Refused NoRoom)) (cond y (manyDone (madeAgain b .session) b vs room a) (kept (Refused NotReady))) .answer ≡ 0)
-        → (cond x (kept (Refused NoRoom)) (cond y (manyDone (madeAgain b .session) b vs room a) (kept (Refused NotReady))) .bytes ≡ b)
-        × (cond x (kept (Refused NoRoom)) (cond y (manyDone (madeAgain b .session) b vs room a) (kept (Refused NotReady))) .words ≡ room)
+    go : (x y : Bool) (a : Answer) → ¬ (cond x (kept (Refused NoRoom)) (cond y (manyDone how (madeAgain b .session) b vs room a) (kept (Refused NotReady))) .answer % 256 ≡ 0)
+        → (cond x (kept (Refused NoRoom)) (cond y (manyDone how (madeAgain b .session) b vs room a) (kept (Refused NotReady))) .bytes ≡ b)
+        × (cond x (kept (Refused NoRoom)) (cond y (manyDone how (madeAgain b .session) b vs room a) (kept (Refused NotReady))) .words ≡ room)
     go true y a x = (refl, refl)
     go false false a x = (refl, refl)
     go false true (Refused why) x = (refl, refl)
-    go false true (Done k) x = absurd (x refl)
+    go false true (Done k) x = absurd (x (done-number (countBy how (madeAgain b .session) k)))
 
 -- The words of each vector
 
@@ -230,7 +239,7 @@ session-append s (x ∷ xs) ys = session-append (operated (x .how) s (x .given) 
 
 -- the session that many vectors leave is the one that the library leaves, called for each of them
 pub run-session : (s : Session) (vs room : List ℕ) (n k : ℕ) → manyRun s vs n k room .session ≡ sessionAfter s (eachVector vs n k)
-unfolding manyRun eachVector sessionAfter
+unfolding manyBy eachVector sessionAfter
 run-session s vs room n zero = sym (ap (sessionAfter s) (listed-none (λ j. record { how = ByFields; given = part vs (j * n) n })))
 run-session s vs room n (suc k) =
     let e : k + 1 ≡ suc k = omega arith in
@@ -244,7 +253,7 @@ module _ (s : Session) (vs : List ℕ) (n : ℕ) (room : List ℕ) where
   -- the words of vector j stay where they were put, whatever vectors come after it
   pub run-words : (k : ℕ) → k * s .nets ≤ length room → (j m : ℕ) → j < k → m < s .nets
       → getD (manyRun s vs n k room .words) (j * s .nets + m) 0 ≡ getD (manyRun s vs n (suc j) room .session .words) m 0
-  unfolding manyRun
+  unfolding manyBy
   run-words zero f j m l u = absurd (omega arith)
   run-words (suc k) f j m l u = go (λ b. run-words k (omega (arith, now)) j m b u) (decLt j k)
     where
@@ -273,7 +282,7 @@ module _ (s : Session) (vs : List ℕ) (n : ℕ) (room : List ℕ) where
 
   -- the room past the words of all vectors stays
   pub run-past : (k i : ℕ) → k * s .nets ≤ i → getD (manyRun s vs n k room .words) i 0 ≡ getD room i 0
-  unfolding manyRun
+  unfolding manyBy
   run-past zero i f = refl
   run-past (suc k) i f = go (run-past k i (omega (arith, past))) (decLt i (length room))
     where
@@ -299,17 +308,28 @@ words-shown b s h r words befores flags fits n l =
     ap (λ t. getD (t .words) n 0) (history-follows b s h words befores flags)
     ∙ history-shows s (held-good b s h) r words befores flags (history-0 s words befores flags .1 (r, fits)) n l .0
 
-module _ (b vs room : List ℕ) (s : Session) (h : Holding b s) (k : ℕ) (e : manyJudged s vs (length room) ≡ Done k) where
+module _ (how : Engine) (b vs room : List ℕ) (s : Session) (h : Holding b s) (k : ℕ) (e : manyJudged s vs (length room) ≡ Done k) where
   -- the bytes hold the session that the library's own vectors leave, one by one
-  pub many-session : Bytes vs → Holding (hostVectors b vs room .bytes) (sessionAfter s (eachVector vs (s .inputs) k))
-  many-session ok = subst (Holding (hostVectors b vs room .bytes)) (run-session s vs room (s .inputs) k) (many-follow b vs room s h ok k e .1)
+  pub many-session : Bytes vs → Holding (hostVectors how b vs room .bytes) (sessionAfter s (eachVector vs (s .inputs) k))
+  many-session ok = subst (Holding (hostVectors how b vs room .bytes)) (run-session s vs room (s .inputs) k) (many-follow how b vs room s h ok k e .1)
 
-  words-are : hostVectors b vs room .words ≡ manyRun s vs (s .inputs) k room .words
-  words-are = ap (λ x. x .words) (vectors-are b vs room s h k e)
+  -- by either engine the words are those of vectors by fields, one after another
+  words-are : hostVectors how b vs room .words ≡ manyRun s vs (s .inputs) k room .words
+  words-are = ap (λ x. x .words) (vectors-are how b vs room s h k e) ∙ by how
+    where
+      asks : (s .rested ≡ true) × (every byteFits vs ≡ true) × (k ≡ length vs / s .inputs) × (k * s .nets ≤ length room)
+      asks = many-asks s vs (length room) k e
+
+      few : k * s .inputs ≤ length vs
+      few = let good = held-good b s h in le-div-iff-mul-le (inputs-some s (good .card (good .rest (asks .0) .0)) .0) .0 (le-of-eq (asks .2))
+
+      by : (how : Engine) → runBy how s vs (s .inputs) k room .words ≡ manyRun s vs (s .inputs) k room .words
+      by Fields = refl
+      by Steps = ap (λ x. x .words) (many-steps-same s (held-good b s h) (asks .0) vs room (asks .1) k few)
 
   -- the words that the call leaves for vector j are the words of the session after the first j + 1 vectors, one by one
   pub many-words : (j n : ℕ) → j < k → n < s .nets
-      → getD (hostVectors b vs room .words) (j * s .nets + n) 0 ≡ getD (sessionAfter s (eachVector vs (s .inputs) (j + 1)) .words) n 0
+      → getD (hostVectors how b vs room .words) (j * s .nets + n) 0 ≡ getD (sessionAfter s (eachVector vs (s .inputs) (j + 1)) .words) n 0
   many-words j n l u =
       let q : suc j ≡ j + 1 = omega arith in
       ap (λ w. getD w (j * s .nets + n) 0) words-are ∙ run-words s vs (s .inputs) room k (many-asks s vs (length room) k e .3) j n l u
@@ -343,7 +363,7 @@ module _ (b vs room : List ℕ) (s : Session) (h : Holding b s) (k : ℕ) (e : m
   -- and they are the words that a history shows of the bytes after the first j + 1 vectors, a call for each
   pub many-shown : Bytes vs → (words befores flags : List ℕ) → s .nets ≤ length words → s .nets ≤ length befores → s .nets ≤ length flags
       → (j n : ℕ) → j < k → n < s .nets
-      → getD (hostVectors b vs room .words) (j * s .nets + n) 0
+      → getD (hostVectors how b vs room .words) (j * s .nets + n) 0
       ≡ getD (hostHistory (bytesAfter b (eachVector vs (s .inputs) (j + 1))) words befores flags .words) n 0
   many-shown ok words befores flags x y z j n l u =
       let after = after-each ok j l in
@@ -353,9 +373,23 @@ module _ (b vs room : List ℕ) (s : Session) (h : Holding b s) (k : ℕ) (e : m
       (record { for-words = omega (arith, same, x); for-befores = omega (arith, same, y); for-flags = omega (arith, same, z) }) n (omega (arith, same, u)))
 
   -- the room past the words of all vectors stays as it was
-  pub many-past : (i : ℕ) → k * s .nets ≤ i → getD (hostVectors b vs room .words) i 0 ≡ getD room i 0
+  pub many-past : (i : ℕ) → k * s .nets ≤ i → getD (hostVectors how b vs room .words) i 0 ≡ getD room i 0
   many-past i l = ap (λ w. getD w i 0) words-are ∙ run-past s vs (s .inputs) room k i l
 
   -- no entry more, and none less
-  pub many-room : length (hostVectors b vs room .words) ≡ length room
+  pub many-room : length (hostVectors how b vs room .words) ≡ length room
   many-room = ap length words-are ∙ many-length s vs (s .inputs) k room
+
+-- by steps the count is that of every one of the vectors, run by itself
+pub many-count : (b vs room : List ℕ) (s : Session) → Holding b s → (k : ℕ) → manyJudged s vs (length room) ≡ Done k → (j : ℕ) → j < k
+    → hostVectors Steps b vs room .answer ≡ packed (stepsVectorOf (sessionAfter s (eachVector vs (s .inputs) j)) (part vs (j * s .inputs) (s .inputs)) .answer)
+many-count b vs room s h k e j l =
+    ap (λ x. x .answer) (vectors-are Steps b vs room s h k e)
+    ∙ ap (λ a. packed a) (sym (each-counts s (held-good b s h) (asks .0) vs room (asks .1) k j l few))
+    ∙ ap (λ z. packed (stepsVectorOf z (part vs (j * s .inputs) (s .inputs)) .answer)) (run-session s vs room (s .inputs) j)
+  where
+    asks : (s .rested ≡ true) × (every byteFits vs ≡ true) × (k ≡ length vs / s .inputs) × (k * s .nets ≤ length room)
+    asks = many-asks s vs (length room) k e
+
+    few : k * s .inputs ≤ length vs
+    few = let good = held-good b s h in le-div-iff-mul-le (inputs-some s (good .card (good .rest (asks .0) .0)) .0) .0 (le-of-eq (asks .2))

@@ -287,5 +287,5 @@ unleft-12 b long ok n = go (yes-or-no (madeAgain b .whole))
     go (inr e) = record {
       moves = λ how v. sym (move-broken how b v 12 long e refl);
       histories = λ words befores flags. sym (history-broken b words befores flags 12 long e refl);
-      vectors = λ vs room. sym (vectors-broken b vs room 12 long e refl);
+      vectors = λ how vs room. sym (vectors-broken how b vs room 12 long e refl);
     }

@@ -91,7 +91,7 @@ pub fn gate_bit(rule: Rule, all: bool) -> bool
 }
 
 // The same at every time.
-fn gate_word(rule: Rule, all: u64) -> u64
+pub fn gate_word(rule: Rule, all: u64) -> u64
     ensures { λ r. ⌜ ((t : ℕ) → t < 64 → bit r t ≡ differ (bit all t) (rule .inversion)) ⌝ }
 {
     all ^ word::spread(rule.inversion)

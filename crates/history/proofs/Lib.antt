@@ -1,10 +1,4 @@
 pub mod Changes
 pub mod Flags
-pub mod Moves
-pub mod FirstPins
-pub mod Ways
-pub mod Causes
-pub mod WaysBack
 pub mod Ran
 pub mod Histories
-pub mod Traces

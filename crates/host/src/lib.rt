@@ -1,13 +1,17 @@
 // Load, rest, vector and history for a host program, on numbers and byte slices. Between calls the session lives in lent bytes, from which each call makes
 // it again. Every call answers the paper's number and the count: number + 256 * count.
 ghost use mathlib.Core.Path.{_≡_};
-ghost use Prim.Native.Nat.{_≤_};
+ghost use mathlib.Core.Bool.{true};
+ghost use Prim.Native.Nat.{_*_, _≤_};
 ghost use lib.ListN.{length};
+ghost use Rattle.lists.specs.Entries.{every};
+ghost use Rattle.inputs.specs.Inputs.{byteFits};
 ghost use Rattle.session.specs.Good.{Good};
 ghost use Rattle.many.specs.Many.{manyJudged};
 ghost use Rattle.host.specs.declared.Move.the-variants.{Load, Rest, Vector, Steps};
 ghost use Rattle.host.specs.Calls.{packed, loadMove, operated, keptBy, leftBy, hostMove, hostHistory};
-ghost use Rattle.host.specs.Vectors.{manyDone, hostVectors};
+ghost use Rattle.host.specs.declared.Engine.the-variants.{Fields, Steps as BySteps};
+ghost use Rattle.host.specs.Vectors.{runBy, countBy, manyDone, hostVectors};
 use card::Session;
 use rule::Answer;
 use rule::Refusal;
@@ -18,6 +22,12 @@ pub enum Move {
     Load,
     Rest,
     Vector,
+    Steps,
+}
+
+// The engine of a call that runs many vectors.
+pub enum Engine {
+    Fields,
     Steps,
 }
 
@@ -142,26 +152,43 @@ pub extern "C" fn krasvome_history(
     pack(history::history(made.session, words, befores, flags))
 }
 
+// Many vectors by either engine; the count that comes with 0 is handed back.
+fn run_by(how: Engine, s: Session, vectors: &[u8], k: usize, words: &mut [u64]) -> usize
+    requires { ⌜ Good s ⌝ }
+    requires { ⌜ (s .rested ≡ true) × (every byteFits (now vectors) ≡ true) ⌝ }
+    requires { ⌜ (k * s .inputs ≤ length (now vectors)) × (s .nets ≤ 256) × (k * s .nets ≤ length (now words)) ⌝ }
+    ensures { λ r. ⌜ now (words .exit) ≡ runBy how s (now (vectors .entry)) (s .inputs) k (now (words .entry)) .words ⌝ }
+    ensures { λ r. ⌜ r ≡ countBy how s k ⌝ }
+{
+    match how {
+        Engine::Fields => {
+            many::run_many(s, vectors, k, words);
+            0
+        }
+        Engine::Steps => packs::run_packs(s, vectors, k, words),
+    }
+}
+
 // Many vectors on a session that was made again.
-fn do_many(s: Session, b: &mut [u8], vectors: &[u8], words: &mut [u64]) -> u64
+fn do_many(how: Engine, s: Session, b: &mut [u8], vectors: &[u8], words: &mut [u64]) -> u64
     requires { ⌜ Good s ⌝ }
     requires { ⌜ 5895 ≤ length (now b) ⌝ }
-    ensures { λ r. ⌜ record { answer = r; bytes = now (b .exit); words = now (words .exit) } ≡ manyDone s (now (b .entry)) (now (vectors .entry)) (now (words .entry)) (manyJudged s (now (vectors .entry)) (length (now (words .entry)))) ⌝ }
+    ensures { λ r. ⌜ record { answer = r; bytes = now (b .exit); words = now (words .exit) } ≡ manyDone how s (now (b .entry)) (now (vectors .entry)) (now (words .entry)) (manyJudged s (now (vectors .entry)) (length (now (words .entry)))) ⌝ }
 {
     let verdict = many::judge_many(s, vectors, words.len());
     match verdict {
         Answer::Refused(_) => pack(verdict),
         Answer::Done(k) => {
-            many::run_many(s, vectors, k, words);
+            let count = run_by(how, s, vectors, k, words);
             many::keep_many(b, vectors, s.inputs, k);
-            0
+            pack(Answer::Done(count))
         }
     }
 }
 
-#[no_mangle]
-pub extern "C" fn krasvome_vectors(session: &mut [u8], vectors: &[u8], words: &mut [u64]) -> u64
-    ensures { λ r. ⌜ record { answer = r; bytes = now (session .exit); words = now (words .exit) } ≡ hostVectors (now (session .entry)) (now (vectors .entry)) (now (words .entry)) ⌝ }
+// A call that runs many vectors: 18, 12, and then all of them or none.
+fn host_vectors(how: Engine, session: &mut [u8], vectors: &[u8], words: &mut [u64]) -> u64
+    ensures { λ r. ⌜ record { answer = r; bytes = now (session .exit); words = now (words .exit) } ≡ hostVectors how (now (session .entry)) (now (vectors .entry)) (now (words .entry)) ⌝ }
 {
     if session.len() < keeping::SESSION {
         return pack(Answer::Refused(Refusal::NoRoom));
@@ -170,5 +197,23 @@ pub extern "C" fn krasvome_vectors(session: &mut [u8], vectors: &[u8], words: &m
     if !made.whole {
         return pack(Answer::Refused(Refusal::NotReady));
     }
-    do_many(made.session, session, vectors, words)
+    do_many(how, made.session, session, vectors, words)
+}
+
+#[no_mangle]
+pub extern "C" fn krasvome_vectors(session: &mut [u8], vectors: &[u8], words: &mut [u64]) -> u64
+    ensures { λ r. ⌜ record { answer = r; bytes = now (session .exit); words = now (words .exit) } ≡ hostVectors Fields (now (session .entry)) (now (vectors .entry)) (now (words .entry)) ⌝ }
+{
+    host_vectors(Engine::Fields, session, vectors, words)
+}
+
+#[no_mangle]
+pub extern "C" fn krasvome_vectors_steps(
+    session: &mut [u8],
+    vectors: &[u8],
+    words: &mut [u64],
+) -> u64
+    ensures { λ r. ⌜ record { answer = r; bytes = now (session .exit); words = now (words .exit) } ≡ hostVectors BySteps (now (session .entry)) (now (vectors .entry)) (now (words .entry)) ⌝ }
+{
+    host_vectors(Engine::Steps, session, vectors, words)
 }

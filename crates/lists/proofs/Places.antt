@@ -1,16 +1,18 @@
 -- Lists by place: entries that are all 0 from one place to another, an area that was written, and a part. Assumes nothing.
-use mathlib.Core.Path.{_≡_, refl, sym, _∙_}
+use mathlib.Core.Path.{_≡_, refl, sym, ap, ap₂, _∙_}
 use mathlib.Core.Bool.{Bool, true, false, cond, _&&_}
 use mathlib.Core.List.{List}
 use mathlib.Core.Logic.{_⊎_, inl, inr}
-use Prim.Native.Nat.{ℕ, suc, _+_, _-_, _≤_, _<_}
+use Prim.Native.Nat.{ℕ, suc, _+_, _-_, _*_, _≤_, _<_}
+use native.Mathlib.Nat.{add-zero, suc-mul, mul-le-mul-right}
 use native.Mathlib.Omega.{arith}
+use native.Mathlib.Decide.{decLt}
 use lib.Dec.{eqb, leb, ltb}
 use lib.ListN.{length, getD, set, take, drop, length-take, length-drop, List·getD-eq-default}
 use lib.Seq.{getD-take, getD-drop, length-take-le}
 use borrow.Author.Tests.{eqb-true, eq-eqb, lt-ltb, le-ltb, le-leb, lt-leb, ltb-true, ltb-false}
 use Rattle.lists.specs.Entries.{from}
-use Rattle.lists.specs.Listed.{listed}
+use Rattle.lists.specs.Listed.{listed, upto}
 use Rattle.lists.specs.Places.{part, clear, area}
 use Rattle.lists.proofs.Tests.{every-at, every-yes}
 use Rattle.lists.proofs.Joined.{in-from, out-from}
@@ -141,3 +143,65 @@ module _ (P : ℕ → Type 0) (zero-too : P 0) (b : List ℕ) (all : (i : ℕ) �
       go false e =
           let short : length (part b at n) ≤ n = rw (length-take n (drop at b)) (omega arith) in
           rw (List·getD-eq-default (part b at n) 0 {n = i} (omega (arith, short, ltb-false i n e))) zero-too
+
+-- an area that is written place by place: none, one more, all of them; the list stays as long as it was
+module _ (b : List ℕ) (at : ℕ) (v : List ℕ) where
+  pub put-start : b ≡ area b at (at + 0) v
+  put-start = area-none b at v ∙ ap (λ k. area b at k v) (sym (add-zero at))
+
+  pub put-next : (i w : ℕ) (xs : List ℕ) → at + i < length b → xs ≡ area b at (at + i) v → w ≡ getD v i 0
+      → set xs (at + i) w ≡ area b at (at + (i + 1)) v
+  put-next i w xs l e h =
+      let here : i ≡ at + i - at = omega arith in
+      let next : at + i + 1 ≡ at + (i + 1) = omega arith in
+      ap₂ (λ x y. set x (at + i) y) e (h ∙ ap (λ k. getD v k 0) here) ∙ area-more b at (at + i) v (omega arith) l
+      ∙ ap (λ k. area b at k v) next
+
+  pub put-end : (i n : ℕ) (xs : List ℕ) → i ≡ n → xs ≡ area b at (at + i) v → xs ≡ area b at (at + n) v
+  put-end i n xs q e = e ∙ ap (λ k. area b at (at + k) v) q
+
+  pub put-length : (to : ℕ) (xs : List ℕ) → xs ≡ area b at to v → length xs ≡ length b
+  put-length to xs e = ap length e ∙ length-area b at to v
+
+-- only so many entries of a list come to an area
+pub area-same : (b : List ℕ) (at n : ℕ) (v w : List ℕ) → ((k : ℕ) → k < n → getD v k 0 ≡ getD w k 0) → area b at (at + n) v ≡ area b at (at + n) w
+unfolding area
+area-same b at n v w h = listed-ext _ _ (length b) (λ i l. go i (decLt i at) (decLt i (at + n)))
+  where
+    go : (i : ℕ) → Dec (i < at) → Dec (i < at + n) → cond (leb at i && ltb i (at + n)) (getD v (i - at) 0) (getD b i 0) ≡ cond (leb at i && ltb i (at + n)) (getD w (i - at) 0) (getD b i 0)
+    go i (yes x) y = rw (lt-leb at i x)
+    go i (no x) (yes y) = ap (λ k. cond (leb at i && ltb i (at + n)) k (getD b i 0)) (h (i - at) (omega arith))
+    go i (no x) (no y) = rw (le-ltb i (at + n) (omega arith), le-leb at i (omega arith))
+
+-- entries that are filled from the front, with an area more
+pub upto-area : (f g : ℕ → ℕ) (n a b : ℕ) (v : List ℕ) → a ≤ b → b ≤ n → ((i : ℕ) → a ≤ i → i < b → getD v (i - a) 0 ≡ f i)
+    → area (listed (upto f g a) n) a b v ≡ listed (upto f g b) n
+upto-area f g n a b v l m h = is-listed (upto f g b) n 0 (area xs a b v) (length-area xs a b v ∙ long) (λ i k. at i k (decLt i a) (decLt i b))
+  where
+    xs : List ℕ
+    xs = listed (upto f g a) n
+
+    long : length xs ≡ n
+    long = length-listed (upto f g a) n
+
+    at : (i : ℕ) → i < n → Dec (i < a) → Dec (i < b) → getD (area xs a b v) i 0 ≡ upto f g b i
+    at i k (yes x) y =
+        area-out xs a b v i (inl x) (omega (arith, long, k)) ∙ listed-at (upto f g a) n i 0 k
+        ∙ rw (lt-ltb i a x, lt-ltb i b (omega arith))
+    at i k (no x) (yes y) = area-in xs a b v i (omega (arith, long, m)) (omega arith) y ∙ h i (omega arith) y ∙ rw (lt-ltb i b y)
+    at i k (no x) (no y) =
+        area-out xs a b v i (inr (omega arith)) (omega (arith, long, k)) ∙ listed-at (upto f g a) n i 0 k
+        ∙ rw (le-ltb i a (omega arith), le-ltb i b (omega arith))
+
+-- Entries n at a time
+
+pub turn-next : (j n : ℕ) → j * n + n ≡ (j + 1) * n
+turn-next j n = let e : j + 1 ≡ suc j = omega arith in sym (ap (λ k. k * n) e ∙ suc-mul j n)
+
+pub turn-fits : (j k n l : ℕ) → j < k → k * n ≤ l → j * n + n ≤ l
+turn-fits j k n l b h =
+    let more : (j + 1) * n ≤ k * n = mul-le-mul-right n (omega arith) in
+    omega (arith, more, turn-next j n, h)
+
+pub turn-place : (i m n j l : ℕ) → i < m → j < n → m * n ≤ l → i * n + j < l
+turn-place i m n j l a b h = omega (arith, turn-fits i m n l a h, b)

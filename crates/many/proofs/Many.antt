@@ -3,7 +3,7 @@ use mathlib.Core.Path.{_≡_, refl, sym, ap, ap₂, _∙_, subst}
 use mathlib.Core.Bool.{Bool, true, false, cond}
 use mathlib.Core.List.{List}
 use Prim.Native.Nat.{ℕ, zero, suc, _+_, _-_, _*_, _/_, _%_, _<_, _≤_}
-use native.Mathlib.Nat.{suc-mul, mul-le-mul-right, le-div-iff-mul-le, div-lt-iff-lt-mul}
+use native.Mathlib.Nat.{le-div-iff-mul-le, div-lt-iff-lt-mul}
 use native.Mathlib.Omega.{arith}
 use lib.Dec.{eqb, leb}
 use lib.ListN.{length, getD}
@@ -14,7 +14,7 @@ use Rattle.lists.specs.Places.{part, area}
 use Rattle.lists.proofs.Tests.{every-at}
 use Rattle.lists.proofs.Order.{at-in}
 use Rattle.lists.proofs.Listed.{length-listed, out-listed}
-use Rattle.lists.proofs.Places.{length-area, part-listed}
+use Rattle.lists.proofs.Places.{turn-next, length-area, part-listed}
 use Rattle.rule.specs.declared.Refusal.the-variants.{NotReady, VectorLength, VectorByte, NoRoom}
 use Rattle.rule.specs.declared.Answer.the-variants.{Done, Refused}
 use Rattle.inputs.specs.Allowed.{byteLimit, Vector}
@@ -28,15 +28,7 @@ use Rattle.session.proofs.Held.{inputs-ranked}
 use Rattle.session.proofs.Moving.{words-move}
 use Rattle.session.proofs.Kept.{vector-good}
 use Rattle.session.proofs.Refusals.{vector-takes}
-use Rattle.many.specs.Many.{manyRun, manyJudged, keptAt, keptMany}
-
-pub turn-next : (j n : ℕ) → j * n + n ≡ (j + 1) * n
-turn-next j n = let e : j + 1 ≡ suc j = omega arith in sym (ap (λ k. k * n) e ∙ suc-mul j n)
-
-pub turn-fits : (j k n l : ℕ) → j < k → k * n ≤ l → j * n + n ≤ l
-turn-fits j k n l b h =
-    let more : (j + 1) * n ≤ k * n = mul-le-mul-right n (omega arith) in
-    omega (arith, more, turn-next j n, h)
+use Rattle.many.specs.Many.{manyBy, manyRun, manyJudged, keptAt, keptMany}
 
 -- one vector more
 pub many-more : (s : Session) (vs : List ℕ) (n j : ℕ) (room : List ℕ)
@@ -44,7 +36,7 @@ pub many-more : (s : Session) (vs : List ℕ) (n j : ℕ) (room : List ℕ)
     ≡ (let ran = manyRun s vs n j room in
     let next = vectorOf (ran .session) (part vs (j * n) n) .session in
     record { session = next; words = area (ran .words) (j * s .nets) (j * s .nets + s .nets) (next .words) })
-unfolding manyRun
+unfolding manyBy
 many-more s vs n j room = let e : j + 1 ≡ suc j = omega arith in ap (λ k. manyRun s vs n k room) e ∙ step
   where
     step : manyRun s vs n (suc j) room
@@ -54,7 +46,7 @@ many-more s vs n j room = let e : j + 1 ≡ suc j = omega arith in ap (λ k. man
     step = refl
 
 pub many-length : (s : Session) (vs : List ℕ) (n k : ℕ) (room : List ℕ) → length (manyRun s vs n k room .words) ≡ length room
-unfolding manyRun
+unfolding manyBy
 many-length s vs n zero room = refl
 many-length s vs n (suc k) room = length-area _ _ _ _ ∙ many-length s vs n k room
 
@@ -101,7 +93,7 @@ module _ (s : Session) (g : Good s) (r : s .rested ≡ true) (vs room : List ℕ
       }
 
   pub many-left : (j : ℕ) → j * s .inputs ≤ length vs → Left (left j)
-  unfolding manyRun
+  unfolding manyBy
   many-left zero l = record { good = g; same = ap (λ b. resting s b (s .before) (s .words)) r }
   many-left (suc j) l =
       let more = turn-next j (s .inputs) in

@@ -19,14 +19,18 @@ pub record Ran : Type 0 where
   pub session : Session
   pub words : List ℕ
 
--- vectors of n bytes each, one after another, the first k of them: each leaves a session, and the words of its history go to the room, after those of
--- the vectors ahead of it
-unfoldable pub manyRun : Session → List ℕ → ℕ → ℕ → List ℕ → Ran
-manyRun s vs n zero room = record { session = s; words = room }
-manyRun s vs n (suc k) room =
-    let ran = manyRun s vs n k room in
-    let next = vectorOf (ran .session) (part vs (k * n) n) .session in
+-- vectors of n bytes each, one after another, the first k of them: each leaves a session by some operation, and the words of its history go to the room, after those
+-- of the vectors ahead of it
+unfoldable pub manyBy : (Session → List ℕ → Session) → Session → List ℕ → ℕ → ℕ → List ℕ → Ran
+manyBy op s vs n zero room = record { session = s; words = room }
+manyBy op s vs n (suc k) room =
+    let ran = manyBy op s vs n k room in
+    let next = op (ran .session) (part vs (k * n) n) in
     record { session = next; words = area (ran .words) (k * s .nets) (k * s .nets + s .nets) (next .words) }
+
+-- by fields
+abbrev pub manyRun : Session → List ℕ → ℕ → ℕ → List ℕ → Ran
+manyRun = manyBy (λ z v. vectorOf z v .session)
 
 -- "Vector by either engine: 12, 10, 11", of many at once: as many bytes as there are inputs for each, every one 0 or 1; and 18 where there is too little room
 -- for a word a net and vector. Done says how many vectors they are

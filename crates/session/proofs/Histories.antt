@@ -26,7 +26,7 @@ use Rattle.rule.proofs.Nets.{at-open, at-net, net-open}
 use Rattle.rule.proofs.Runs.{run-right}
 use Rattle.rule.proofs.Values.{netFn, source-keeps, constant-is, gate-starts, moves}
 use Rattle.rule.proofs.GateOrders.{out-order, in-order, order-ready}
-use Rattle.wiring.specs.Layout.{Fits, typeOf, kindsOf, typesOf, countsOf, placesOf}
+use Rattle.wiring.specs.Layout.{Fits, pinsAt, typeOf, kindsOf, typesOf, countsOf, placesOf}
 use Rattle.wiring.proofs.Layouts.{pins-laid, type-at}
 use Rattle.inputs.specs.Inputs.{isInputKind, given}
 use Rattle.fields.specs.Fields.{fieldOf, fieldAt, pinWord, topsOf, passed, startAt}
@@ -38,7 +38,7 @@ use Rattle.session.specs.Good.{histories}
 use Rattle.session.proofs.States.{past-zero}
 
 -- the word that is 0 at every time
-zero-word : 0 ≡ wordOf 64 (λ t. false)
+pub zero-word : 0 ≡ wordOf 64 (λ t. false)
 zero-word = is-word 64 (λ t. false) 0 (lit< tt) (λ t l. bit-none t)
 
 -- a gate's function is that of its type
@@ -58,6 +58,23 @@ source-first : (w : Net) (new before : Bool) → isSource w ≡ true → ((k : B
 source-first input new before e h = refl
 source-first (constant k) new before e h = h k refl
 source-first (gate ty ps) new before e h = absurd (false≢true e)
+
+-- a pass along the gates' order leaves every net's proper word, where each gate's is what it makes of its pins' proper words, and what does not move has its own from the start
+pub along-right : (c : List Net) → Fitted c → ¬ Looped c → (fn : ℕ → List ℕ → ℕ) (start word : ℕ → ℕ)
+    → ((n : ℕ) → isSource (netAt c n) ≡ false → n < length c → word n ≡ fn n (map word (pins c n))) → ((n : ℕ) → isSource (netAt c n) ≡ true → start n ≡ word n)
+    → listed (run eqb (pinsAt (countsOf c) (placesOf c)) fn start (gateOrder c)) 256 ≡ listed word 256
+along-right c fit free fn start word meets still =
+    ap (λ ps. listed (run eqb ps fn start (gateOrder c)) 256) (pins-laid c (fit .fits))
+    ∙ listed-ext (run eqb (pins c) fn start (gateOrder c)) word 256 (λ n b. right n (known n (isSource (netAt c n)) refl))
+  where
+    known : (n : ℕ) (b : Bool) → isSource (netAt c n) ≡ b → (b ≡ true) ⊎ (n ∈ gateOrder c)
+    known n true e = inl refl
+    known n false e = inr (in-order c free (fit .pinned) n e)
+
+    right : (n : ℕ) → (isSource (netAt c n) ≡ true) ⊎ (n ∈ gateOrder c) → run eqb (pins c) fn start (gateOrder c) n ≡ word n
+    right n =
+        run-right eqb (pins c) eqb-true (λ g. eq-eqb g g refl) fn word (λ g. (isSource (netAt c g) ≡ false) × (g < length c)) (λ g o. meets g (o .0) (o .1))
+        (λ g. isSource (netAt c g)) start (gateOrder c) (out-order c) still (order-ready c free (fit .pinned)) n
 
 -- the rule's histories from before values, and words that the pass starts from: they have the histories of what does not move, and end in the before
 -- values of the gates
@@ -104,18 +121,7 @@ module _ (c : List Net) (fit : Fitted c) (free : ¬ Looped c) (before new : ℕ 
 
   pub pass-histories : passed (topsOf start) (typesOf c) (countsOf c) (placesOf c) start (gateOrder c) ≡ histories c before new
   unfolding passed histories
-  pass-histories =
-      ap (λ ps. listed (run eqb ps fn (pinWord start) (gateOrder c)) 256) (pins-laid c (fit .fits))
-      ∙ listed-ext (run eqb (pins c) fn (pinWord start) (gateOrder c)) word 256 (λ n b. right n (known n (isSource (netAt c n)) refl))
-    where
-      known : (n : ℕ) (b : Bool) → isSource (netAt c n) ≡ b → (b ≡ true) ⊎ (n ∈ gateOrder c)
-      known n true e = inl refl
-      known n false e = inr (in-order c free (fit .pinned) n e)
-
-      right : (n : ℕ) → (isSource (netAt c n) ≡ true) ⊎ (n ∈ gateOrder c) → run eqb (pins c) fn (pinWord start) (gateOrder c) n ≡ word n
-      right n =
-          run-right eqb (pins c) eqb-true (λ g. eq-eqb g g refl) fn word (λ g. (isSource (netAt c g) ≡ false) × (g < length c)) (λ g o. gate-word g (o .0) (o .1))
-          (λ g. isSource (netAt c g)) (pinWord start) (gateOrder c) (out-order c) start-right (order-ready c free (fit .pinned)) n
+  pass-histories = along-right c fit free fn (pinWord start) word gate-word start-right
 
 -- Words to start from
 

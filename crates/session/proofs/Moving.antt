@@ -46,7 +46,7 @@ module _ (s : Session) (h : HasCard s) (r : Rested s) where
       rest-same c (h .accepted .named) (λ n. value c (r .old) (r .new) n 63) (ends s) (λ n l. sym (ends-are n (omega arith)))
       (ends-at-rest c (h .accepted .free) (card-fits s h .pinned) (r .old) (r .new) 63 (card-level s h))
 
-  constant-ends : (n : ℕ) (k : Bool) → n < 256 → netAt c n ≡ constant k → ends s n ≡ k
+  pub constant-ends : (n : ℕ) (k : Bool) → n < 256 → netAt c n ≡ constant k → ends s n ≡ k
   constant-ends n k l e = ends-are n l ∙ constant-is c (r .old) (r .new) n 63 k e
 
   -- the before values, and the fields along the gates, are what a vector leaves

@@ -16,6 +16,7 @@ use Rattle.rule.specs.declared.Answer.the-variants.{Done}
 use Rattle.wiring.specs.declared.Verdict.{Verdict}
 use Rattle.wiring.specs.declared.Verdict.the-variants.{Refused as Faulty, Passed}
 use Rattle.inputs.specs.declared.Inputs.{Inputs}
+use Rattle.inputs.specs.Allowed.{Vector}
 use Rattle.inputs.specs.Inputs.{isInputKind, given, vectorFits, inputsRead}
 use Rattle.fields.specs.Fields.{startAt}
 use Rattle.card.specs.declared.Session.{Session}
@@ -24,6 +25,7 @@ use Rattle.card.specs.Held.{HasCard}
 use Rattle.session.specs.declared.Moved.{Moved}
 use Rattle.session.specs.Moves.{refusedMove, moving, ends}
 use Rattle.session.proofs.Answers.{verdict-is, values-given}
+use Rattle.session.proofs.Refusals.{vector-fits}
 use Rattle.variables.specs.Variables.{Words, historiesFrom}
 use Rattle.steps.specs.Runs.{Ran, ran}
 use Rattle.steps.specs.Vector.{startVars, ranAlong, ranSession, ranMove, stepsVectorOf}
@@ -73,6 +75,9 @@ module _ (s : Session) where
     by-tests : (a : Bool) (f : Verdict) → s .rested ≡ a → vectorFits (s .inputs) v ≡ f → answered a f ≡ stepsVectorOf s v
     unfolding stepsVectorOf
     by-tests a f ea ef = sym (ap (λ x. answered x (vectorFits (s .inputs) v)) ea ∙ ap (answered a) ef)
+
+    pub steps-takes : s .rested ≡ true → Vector (s .inputs) v → stepsVectorOf s v ≡ ranMove s along
+    steps-takes e w = sym (by-tests true Passed e (vector-fits (s .inputs) v w))
 
     pub vector-unrested : s .rested ≡ false → refusedMove s NotReady ≡ stepsVectorOf s v
     vector-unrested e = by-tests false _ e refl

@@ -2,6 +2,7 @@
 use mathlib.Core.Path.{_≡_, sym, ap, ap₂, _∙_}
 use mathlib.Core.Bool.{Bool}
 use mathlib.Core.List.{List, map}
+use mathlib.Core.Logic.{_⊎_, inl, inr}
 use Prim.Native.Nat.{ℕ, zero, suc, _+_, _*_, _<_}
 use native.Mathlib.Omega.{arith}
 use lib.ListN.{length, getD, length-map}
@@ -9,7 +10,7 @@ use Rattle.lists.specs.Listed.{listed}
 use Rattle.lists.proofs.Listed.{length-listed, map-listed}
 use Rattle.word.specs.Word.{bit, differ}
 use Rattle.word.specs.Times.{greatest, zeroIn}
-use Rattle.word.proofs.Sets.{greatest-cong, greatest-zero-any}
+use Rattle.word.proofs.Sets.{greatest-cong, greatest-lt, greatest-zero-any}
 use Rattle.gate.specs.Gate.{inverts, gate as gateFn}
 use Rattle.gate.specs.Pins.{byPins, ofPins}
 use Rattle.gate.proofs.Pins.{gate-by-pins}
@@ -23,6 +24,15 @@ use Rattle.variables.specs.Variables.{heldIn, varsOf, readIn, readsIn, f
 largest-in : (f g : ℕ → Bool) (t u : ℕ) → 0 < t → ((i : ℕ) → f i ≡ zeroIn g i) → u ≡ greatest f t 64 → u ≡ greatest (zeroIn g) t 0
 largest-in f g zero u l h e = absurd (omega arith)
 largest-in f g (suc t) u l h e = e ∙ greatest-cong f (zeroIn g) (suc t) 64 (λ i b. h i) ∙ greatest-zero-any g t 64
+
+-- it lies below t
+pub largest-low : (f g : ℕ → Bool) (t u : ℕ) → 0 < t → ((i : ℕ) → f i ≡ zeroIn g i) → u ≡ greatest f t 64 → u < t
+largest-low f g t u l h e = omega (arith, largest-in f g t u l h e, greatest-lt (zeroIn g) t 0 l)
+
+-- a pin that is not open names a net
+pub pin-names : (p n : ℕ) → (p < 256) ⊎ (p ≡ openPin) → ¬ (p ≡ openPin) → n ≡ p → n < 256
+pin-names p n (inl l) q e = omega arith
+pin-names p n (inr o) q e = absurd (q o)
 
 module _ (loose : Bool) (words sets : List ℕ) (t p : ℕ) where
   pub read-open : p ≡ openPin → loose ≡ heldIn loose words (readIn sets t p)

@@ -4,13 +4,13 @@ use Prim.Native.Nat.{_-_, _≤_, _<_}
 use native.Mathlib.Omega.{arith}
 use lib.ListN.{length}
 use borrow.Author.Needs.{needs}
-use Rattle.fields.specs.Fields.{netsPut}
-use Rattle.fields.proofs.Fields.{put-none, put-more}
+use Rattle.fields.specs.Fields.{netsPut, byteWord}
+use Rattle.fields.proofs.Fields.{put-none, put-more, byte-word}
 use Rattle.fields.proofs.put_inputs.Statement.{statement}
 use Rattle.fields.proofs.put_inputs.Tie as tie
 
 abbrev Inv-loop : tie.InvT-loop
-Inv-loop words₀ inputs v j₀ words j = (j ≤ length v) × (words ≡ netsPut inputs v j words₀)
+Inv-loop words₀ inputs v j₀ words j = (j ≤ length v) × (words ≡ netsPut inputs (byteWord v) j words₀)
 
 abbrev μ-loop : tie.MeasureT-loop
 μ-loop words₀ inputs v j₀ words j = length v - j
@@ -57,14 +57,14 @@ loop-again c =
     let i = c .before .before .before .before in
     let l = i .before .loop in
     let s = c .before .before .spread in
-    (omega (arith, i .loop-test .taken), put-more _ _ _ (l .words) (l .j) (c .wide16 .result) (s .result) (c .wide16 .ensures) (omega (arith, s .ok)) (s .ensures) (l .inv .1))
+    (omega (arith, i .loop-test .taken), put-more _ _ _ (l .words) (l .j) (c .wide16 .result) (s .result) (c .wide16 .ensures) (byte-word (i .before .before .before .args .v .now) (l .j) (s .result) (omega (arith, s .ok)) (s .ensures)) (l .inv .1))
 
 returns : tie.Need-returns Inv-loop μ-loop
 returns c =
     let l = c .before .loop in
     let a = c .before .before .before .args in
     let e : l .j ≡ length (a .v .now) = omega (arith, l .inv .0, c .loop-test .left) in
-    l .inv .1 ∙ ap (λ j. netsPut (a .inputs .now) (a .v .now) j (a .words .now)) e
+    l .inv .1 ∙ ap (λ j. netsPut (a .inputs .now) (byteWord (a .v .now)) j (a .words .now)) e
 
 pub put-inputs-spec : {M : Type 1} → statement M
 put-inputs-spec =

@@ -3,11 +3,11 @@ use mathlib.Core.Path.{sym, ap, _∙_}
 use native.Mathlib.Nat.{le-of-eq, le-div-iff-mul-le}
 use native.Mathlib.Omega.{arith}
 use lib.ListN.{length}
+use borrow.Author.Needs.{needs}
 use Rattle.card.proofs.Kept.{nets-are, inputs-some}
 use Rattle.many.proofs.Many.{many-asks}
 use Rattle.host.specs.Vectors.{manyDone}
 use Rattle.host.proofs.Vectors.{done-refused, done-all}
-use borrow.Author.Needs.{needs}
 use Rattle.host.proofs.do_many.Statement.{statement}
 use Rattle.host.proofs.do_many.Tie as tie
 
@@ -23,34 +23,31 @@ pack-requires c κs = search needs
 enum-known-verdict : tie.Need-enum-known-verdict
 enum-known-verdict c = search needs
 
-run-many-requires : tie.Need-run-many-requires
-run-many-requires c κs =
-    let v = c .before .before in
-    let j = v .before .before in
-    let start = j .before .before .before .before in
+run-by-requires : tie.Need-run-by-requires
+run-by-requires c κs =
+    let start = c .before .before .before .before .before .before .before .before in
     let a = start .args in
-    let asks = many-asks (a .s) (a .vectors .now) (length (a .words .now)) _ (sym (j .judge-many .ensures) ∙ v .verdict .given .1) in
+    let asks = many-asks (a .s) (a .vectors .now) (length (a .words .now)) _ (sym (c .before .before .before .before .judge-many .ensures) ∙ c .before .before .verdict .given .1) in
     let h = start .pre .0 .card (start .pre .0 .rest (asks .0) .0) in
     let bytes = le-div-iff-mul-le (inputs-some (a .s) h .0) .0 (le-of-eq (asks .2)) in
     (start .pre .0, ((asks .0, asks .1), (bytes, omega (arith, nets-are (a .s) h, h .accepted .legible .few), asks .3)))
 
 keep-many-requires : tie.Need-keep-many-requires
 keep-many-requires c κs =
-    let v = c .before .before .before .before .before .before in
-    let j = v .before .before in
-    let start = j .before .before .before .before in
+    let start = c .before .before .before .before .before .before .before .before .before .before .before .before in
     let a = start .args in
-    let asks = many-asks (a .s) (a .vectors .now) (length (a .words .now)) _ (sym (j .judge-many .ensures) ∙ v .verdict .given .1) in
+    let asks = many-asks (a .s) (a .vectors .now) (length (a .words .now)) _ (sym (c .before .before .before .before .before .before .before .before .judge-many .ensures) ∙ c .before .before .before .before .before .before .verdict .given .1) in
     let h = start .pre .0 .card (start .pre .0 .rest (asks .0) .0) in
-    let bytes = le-div-iff-mul-le (inputs-some (a .s) h .0) .0 (le-of-eq (asks .2)) in
-    (start .pre .1, bytes)
+    (start .pre .1, le-div-iff-mul-le (inputs-some (a .s) h .0) .0 (le-of-eq (asks .2)))
+
+pack-requires-2 : tie.Need-pack-requires-2
+pack-requires-2 c κs = search needs
 
 returns : tie.Need-returns
 returns c =
-    let j = c .before .before .before in
-    let a = j .before .before .before .before .args in
-    done-refused (a .s) (a .b .now) (a .vectors .now) (a .words .now) (j .judge-many .result) _ (c .pack .result) (c .before .enum-told .given .1) (c .pack .ensures)
-    ∙ ap (manyDone (a .s) (a .b .now) (a .vectors .now) (a .words .now)) (j .judge-many .ensures)
+    let a = c .before .before .before .before .before .before .before .args in
+    done-refused (a .how) (a .s) (a .b .now) (a .vectors .now) (a .words .now) (c .before .before .before .judge-many .result) _ (c .pack .result) (c .before .enum-told .given .1) (c .pack .ensures)
+    ∙ ap (manyDone (a .how) (a .s) (a .b .now) (a .vectors .now) (a .words .now)) (c .before .before .before .judge-many .ensures)
 
 same-length : tie.Need-same-length
 same-length c = search needs
@@ -60,13 +57,10 @@ same-length-2 c = search needs
 
 returns-2 : tie.Need-returns-2
 returns-2 c =
-    let km = c .before .before in
-    let rm = km .before .before .before .before in
-    let v = rm .before .before .before in
-    let j = v .before .before in
-    let a = j .before .before .before .before .args in
-    done-all (a .s) (a .b .now) (a .vectors .now) (a .words .now) (j .judge-many .result) _ _ _ (v .verdict .given .1) (km .keep-many .ensures) (rm .run-many .ensures)
-    ∙ ap (manyDone (a .s) (a .b .now) (a .vectors .now) (a .words .now)) (j .judge-many .ensures)
+    let a = c .before .before .before .before .before .before .before .before .before .before .before .before .before .before .before .before .args in
+    done-all (a .how) (a .s) (a .b .now) (a .vectors .now) (a .words .now) (c .before .before .before .before .before .before .before .before .before .before .before .before .judge-many .result) _ (c .pack2 .result) (c .before .before .before .before .before .before .before .run-by .result) _ _ (c .before .before .before .before .before .before .before .before .before .before .verdict .given .1) (c .before .before .before .before .before .before .before .run-by .ensures .1) (c .pack2 .ensures)
+    (c .before .before .before .keep-many .ensures) (c .before .before .before .before .before .before .before .run-by .ensures .0)
+    ∙ ap (manyDone (a .how) (a .s) (a .b .now) (a .vectors .now) (a .words .now)) (c .before .before .before .before .before .before .before .before .before .before .before .before .judge-many .ensures)
 
 pub do-many-spec : {M : Type 1} → statement M
 do-many-spec =
@@ -76,8 +70,9 @@ do-many-spec =
     enum-told
     pack-requires
     enum-known-verdict
-    run-many-requires
+    run-by-requires
     keep-many-requires
+    pack-requires-2
     returns
     same-length
     same-length-2

@@ -2,8 +2,9 @@
 use mathlib.Core.Path.{ap, _∙_}
 use Prim.Native.Nat.{_-_}
 use native.Mathlib.Omega.{arith}
+use Rattle.lists.proofs.Places.{turn-fits}
 use Rattle.many.specs.Many.{keptAt}
-use Rattle.many.proofs.Many.{turn-fits, kept-none, kept-one, kept-two}
+use Rattle.many.proofs.Many.{kept-none, kept-one, kept-two}
 use borrow.Author.Needs.{needs}
 use Rattle.many.proofs.keep_many.Statement.{statement}
 use Rattle.many.proofs.keep_many.Tie as tie

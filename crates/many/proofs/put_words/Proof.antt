@@ -1,11 +1,9 @@
 -- `many::put_words` meets its contract. The loop's invariant: the first i words are put. The measure is what is left of n. Assumes nothing.
-use mathlib.Core.Path.{_≡_, sym, ap, ap₂, _∙_}
+use mathlib.Core.Path.{_≡_, refl}
 use Prim.Native.Nat.{_+_, _-_, _≤_}
-use native.Mathlib.Nat.{add-zero}
 use native.Mathlib.Omega.{arith}
-use lib.ListN.{length, getD, set}
 use Rattle.lists.specs.Places.{area}
-use Rattle.lists.proofs.Places.{length-area, area-none, area-more}
+use Rattle.lists.proofs.Places.{put-start, put-next, put-end, put-length}
 use borrow.Author.Needs.{needs}
 use Rattle.many.proofs.put_words.Statement.{statement}
 use Rattle.many.proofs.put_words.Tie as tie
@@ -17,7 +15,7 @@ abbrev μ-loop : tie.MeasureT-loop
 μ-loop words n room₀ at i₀ room i = n - i
 
 loop-holds : tie.Need-loop-holds Inv-loop μ-loop
-loop-holds c = let a = c .args in (omega arith, area-none (a .room .now) (a .at) (a .words .now) ∙ ap (λ k. area (a .room .now) (a .at) k (a .words .now)) (sym (add-zero (a .at))))
+loop-holds c = let a = c .args in (omega arith, put-start (a .room .now) (a .at) (a .words .now))
 
 mul-room : tie.Need-mul-room Inv-loop μ-loop
 mul-room c = search needs
@@ -36,7 +34,7 @@ slice-write-room c =
     let l = c .before .before .loop in
     let start = c .before .before .before in
     let a = start .args in
-    omega (arith, start .pre .1, c .before .loop-test .taken, ap length (l .inv .1) ∙ length-area (a .room .now) (a .at) (a .at + l .i) (a .words .now))
+    omega (arith, start .pre .1, c .before .loop-test .taken, put-length (a .room .now) (a .at) (a .words .now) (a .at + l .i) (l .room) (l .inv .1))
 
 add-i : tie.Need-add-i Inv-loop μ-loop
 add-i c = search needs
@@ -48,27 +46,22 @@ loop-again : tie.Need-loop-again Inv-loop μ-loop
 loop-again c =
     let l = c .before .before .loop in
     let start = c .before .before .before in
-    let a = start .args in
-    let here : a .at + l .i - a .at ≡ l .i = omega arith in
-    let next : a .at + l .i + 1 ≡ a .at + (l .i + 1) = omega arith in (
+    let a = start .args in (
       omega (arith, c .before .loop-test .taken),
-      ap₂ (λ x y. set x (a .at + l .i) y) (l .inv .1) (ap (λ k. getD (a .words .now) k 0) (sym here))
-          ∙ area-more (a .room .now) (a .at) (a .at + l .i) (a .words .now) (omega arith) (omega (arith, start .pre .1, c .before .loop-test .taken))
-          ∙ ap (λ k. area (a .room .now) (a .at) k (a .words .now)) next,
+      put-next (a .room .now) (a .at) (a .words .now) (l .i) _ (l .room) (omega (arith, start .pre .1, c .before .loop-test .taken)) (l .inv .1) refl,
     )
 
 same-length : tie.Need-same-length Inv-loop μ-loop
 same-length c =
     let l = c .before .loop in
     let a = c .before .before .args in
-    ap length (l .inv .1) ∙ length-area (a .room .now) (a .at) (a .at + l .i) (a .words .now)
+    put-length (a .room .now) (a .at) (a .words .now) (a .at + l .i) (l .room) (l .inv .1)
 
 returns : tie.Need-returns Inv-loop μ-loop
 returns c =
     let l = c .before .loop in
     let a = c .before .before .args in
-    let e : l .i ≡ a .n = omega (arith, l .inv .0, c .loop-test .left) in
-    l .inv .1 ∙ ap (λ k. area (a .room .now) (a .at) (a .at + k) (a .words .now)) e
+    put-end (a .room .now) (a .at) (a .words .now) (l .i) (a .n) (l .room) (omega (arith, l .inv .0, c .loop-test .left)) (l .inv .1)
 
 pub put-words-spec : {M : Type 1} → statement M
 put-words-spec =

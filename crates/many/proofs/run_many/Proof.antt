@@ -8,7 +8,7 @@ use lib.ListN.{length, getD, take, drop}
 use borrow.Author.Needs.{needs}
 use Rattle.lists.specs.Listed.{listed}
 use Rattle.lists.specs.Places.{part, area}
-use Rattle.lists.proofs.Places.{part-of}
+use Rattle.lists.proofs.Places.{turn-next, turn-fits, part-of}
 use Rattle.inputs.specs.Inputs.{inputNets}
 use Rattle.inputs.proofs.Vectors.{rank-le}
 use Rattle.inputs.proofs.Nets.{nets-low}
@@ -16,8 +16,8 @@ use Rattle.fields.specs.Fields.{advanced}
 use Rattle.card.specs.Held.{HasCard}
 use Rattle.card.proofs.Kept.{card-wires, card-fitting}
 use Rattle.session.proofs.Held.{gates-fit, gates-once, inputs-ranked}
-use Rattle.many.specs.Many.{manyRun}
-use Rattle.many.proofs.Many.{turn-next, turn-fits, many-more, many-length, many-vector, left-long, next-words}
+use Rattle.many.specs.Many.{manyBy, manyRun}
+use Rattle.many.proofs.Many.{many-more, many-length, many-vector, left-long, next-words}
 use Rattle.many.proofs.run_many.Statement.{statement}
 use Rattle.many.proofs.run_many.Tie as tie
 
@@ -36,7 +36,7 @@ input-nets-requires : tie.Need-input-nets-requires Inv-loop μ-loop
 input-nets-requires c κs = search needs
 
 loop-holds : tie.Need-loop-holds Inv-loop μ-loop
-unfolding manyRun
+unfolding manyBy
 loop-holds c = let s = c .before .before .before .before .before .before .args .t1 in (omega arith, sym (zero-mul (s .inputs)), sym (zero-mul (s .nets)), refl, refl)
 
 -- the bytes of the next vector, and the room for its words, are there

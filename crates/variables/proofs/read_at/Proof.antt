@@ -1,9 +1,7 @@
 -- `variables::read_at` meets its contract. Assumes nothing.
-use mathlib.Core.Logic.{⊎-elim}
 use Prim.Native.Nat.{_<_}
-use native.Mathlib.Omega.{arith}
 use Rattle.rule.specs.Net.{openPin}
-use Rattle.variables.proofs.Pins.{read-open, read-net}
+use Rattle.variables.proofs.Pins.{pin-names, read-open, read-net}
 use borrow.Author.Needs.{needs}
 use Rattle.variables.proofs.read_at.Statement.{statement}
 use Rattle.variables.proofs.read_at.Tie as tie
@@ -11,9 +9,7 @@ use Rattle.variables.proofs.read_at.Tie as tie
 -- a pin that is not open names a net
 below : (c : tie.After-wide16) → c .wide16 .result < 256
 unfolding openPin
-below c =
-    let e = c .wide16 .ensures in
-    ⊎-elim (λ l. omega arith) (λ q. absurd (c .before .if1 .left q)) (c .before .before .pre .1)
+below c = pin-names (c .before .before .args .p) (c .wide16 .result) (c .before .before .pre .1) (c .before .if1 .left) (c .wide16 .ensures)
 
 returns : tie.Need-returns
 unfolding openPin

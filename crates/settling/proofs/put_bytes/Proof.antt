@@ -1,0 +1,80 @@
+-- `settling::put_bytes` meets its contract. The loop's invariant: the first j inputs' words are put. The measure is what is left of them. Assumes nothing.
+use mathlib.Core.Path.{_≡_, sym, ap, subst, _∙_}
+use Prim.Native.Nat.{_-_, _≤_, _<_}
+use native.Mathlib.Omega.{arith}
+use borrow.Author.Needs.{needs}
+use Rattle.fields.specs.Fields.{netsPut}
+use Rattle.fields.proofs.Fields.{put-none, put-more}
+use Rattle.settling.specs.Packs.{packedByte}
+use Rattle.settling.proofs.put_bytes.Statement.{statement}
+use Rattle.settling.proofs.put_bytes.Tie as tie
+
+abbrev Inv-loop : tie.InvT-loop
+Inv-loop words₀ inputs v n m j₀ words j = (j ≤ n) × (words ≡ netsPut inputs (packedByte v n m) j words₀)
+
+abbrev μ-loop : tie.MeasureT-loop
+μ-loop words₀ inputs v n m j₀ words j = n - j
+
+-- there are at most 256 inputs, and each has a net
+place-there : (c : tie.In-loop Inv-loop μ-loop) → c .before .loop .j < 256
+place-there c = omega (arith, c .loop-test .taken, c .before .before .before .pre .0)
+
+net-there : (c : tie.After-wide16 Inv-loop μ-loop) → c .wide16 .result < 256
+net-there c = subst (λ x. x < 256) (sym (c .wide16 .ensures)) (c .before .before .before .before .before .before .pre .3 _)
+
+loop-holds : tie.Need-loop-holds Inv-loop μ-loop
+loop-holds c = (omega arith, put-none _ _ _)
+
+pack-byte-requires : tie.Need-pack-byte-requires Inv-loop μ-loop
+pack-byte-requires c κs = (c .before .before .before .pre .1, c .loop-test .taken, c .before .before .before .pre .2)
+
+mul-wide16 : tie.Need-mul-wide16 Inv-loop μ-loop
+mul-wide16 c = let b = place-there (c .before) in omega arith
+
+element-copy-out-wide16 : tie.Need-element-copy-out-wide16 Inv-loop μ-loop
+element-copy-out-wide16 c = place-there (c .before)
+
+wide16-requires : tie.Need-wide16-requires Inv-loop μ-loop
+wide16-requires c κs = search needs
+
+mul-words : tie.Need-mul-words Inv-loop μ-loop
+mul-words c = let b = net-there c in omega arith
+
+element-write-words : tie.Need-element-write-words Inv-loop μ-loop
+element-write-words c = net-there c
+
+add-j : tie.Need-add-j Inv-loop μ-loop
+add-j c = search needs
+
+loop-less : tie.Need-loop-less Inv-loop μ-loop
+loop-less c = search needs
+
+loop-again : tie.Need-loop-again Inv-loop μ-loop
+loop-again c =
+    let l = c .before .before .before .before .loop in
+    (omega (arith, c .before .before .before .loop-test .taken), put-more _ _ _ (l .words) (l .j) (c .wide16 .result) (c .before .before .pack-byte .result) (c .wide16 .ensures) (c .before .before .pack-byte .ensures) (l .inv .1))
+
+returns : tie.Need-returns Inv-loop μ-loop
+returns c =
+    let l = c .before .loop in
+    let a = c .before .before .before .args in
+    let e : l .j ≡ a .n = omega (arith, l .inv .0, c .loop-test .left) in
+    l .inv .1 ∙ ap (λ j. netsPut (a .inputs .now) (packedByte (a .v .now) (a .n) (a .m)) j (a .words .now)) e
+
+pub put-bytes-spec : {M : Type 1} → statement M
+put-bytes-spec =
+    tie.close
+    (tie.spec
+    Inv-loop
+    μ-loop
+    loop-holds
+    pack-byte-requires
+    mul-wide16
+    element-copy-out-wide16
+    wide16-requires
+    mul-words
+    element-write-words
+    add-j
+    loop-less
+    loop-again
+    returns)

@@ -1,0 +1,87 @@
+-- `settling::settle` meets its contract. The loop's invariant: the words are those along the first i gates. The measure is what is left of the gates. Assumes nothing.
+use mathlib.Core.Path.{_≡_, sym, subst}
+use Prim.Native.Nat.{ℕ, _-_, _≤_}
+use native.Mathlib.Omega.{arith}
+use lib.ListN.{getD}
+use borrow.Author.Needs.{needs}
+use Rattle.lists.specs.Listed.{listed}
+use Rattle.fields.specs.Fields.{Gates}
+use Rattle.settling.specs.Packs.{settledAlong}
+use Rattle.settling.proofs.Packs.{along-none, along-more}
+use Rattle.settling.proofs.settle.Statement.{statement}
+use Rattle.settling.proofs.settle.Tie as tie
+
+abbrev Inv-loop : tie.InvT-loop
+Inv-loop words₀ types counts places n order gates i₀ words i = (i ≤ gates) × (words ≡ settledAlong types counts places words₀ (listed (λ (k : ℕ). getD order k 0) i))
+
+abbrev μ-loop : tie.MeasureT-loop
+μ-loop words₀ types counts places n order gates i₀ words i = gates - i
+
+-- the gate that is read has what a gate needs
+gated : (c : tie.After-wide16 Inv-loop μ-loop) → Gates (c .before .before .before .before .args .types .now) (c .before .before .before .before .args .counts .now) (c .wide16 .result)
+gated c =
+    let s = c .before .before .before .before in
+    subst (Gates (s .args .types .now) (s .args .counts .now)) (sym (c .wide16 .ensures)) (s .pre .1 .1 .0 .1 (c .before .before .before .loop .i) (c .before .before .loop-test .taken))
+
+loop-holds : tie.Need-loop-holds Inv-loop μ-loop
+loop-holds c = (omega arith, along-none (c .args .types .now) (c .args .counts .now) (c .args .places .now) (c .args .words .now) _ (c .pre .1 .1 .1))
+
+mul-wide16 : tie.Need-mul-wide16 Inv-loop μ-loop
+mul-wide16 c = search needs
+
+element-copy-out-wide16 : tie.Need-element-copy-out-wide16 Inv-loop μ-loop
+element-copy-out-wide16 c = search needs
+
+wide16-requires : tie.Need-wide16-requires Inv-loop μ-loop
+wide16-requires c κs = search needs
+
+plain-of-requires : tie.Need-plain-of-requires Inv-loop μ-loop
+plain-of-requires c κs =
+    let s = c .before .before .before .before .before in
+    (s .pre .0, (s .pre .1 .0, gated (c .before)))
+
+mul-words : tie.Need-mul-words Inv-loop μ-loop
+mul-words c = omega (arith, gated (c .before .before) .net)
+
+element-write-words : tie.Need-element-write-words Inv-loop μ-loop
+element-write-words c = gated (c .before .before) .net
+
+add-i : tie.Need-add-i Inv-loop μ-loop
+add-i c = search needs
+
+loop-less : tie.Need-loop-less Inv-loop μ-loop
+loop-less c = search needs
+
+loop-again : tie.Need-loop-again Inv-loop μ-loop
+loop-again c =
+    let s = c .before .before .before .before .before .before in
+    let a = s .args in
+    let l = c .before .before .before .before .before .loop in
+    let t = c .before .before .before .before .loop-test .taken in (
+      omega (arith, t),
+      along-more (a .types .now) (a .counts .now) (a .places .now) (a .words .now) (λ k. getD (a .order .now) k 0) (a .n) (s .pre .0 .few) (s .pre .1 .0) (l .i) (λ j h. s .pre .1 .1 .0 .1 j (omega (arith, h, t)) .net) _ _ _
+          (c .before .before .wide16 .ensures) (l .inv .1) (c .plain-of .ensures),
+    )
+
+returns : tie.Need-returns Inv-loop μ-loop
+returns c =
+    let e : c .before .loop .i ≡ c .before .before .args .gates = omega (arith, c .before .loop .inv .0, c .loop-test .left) in
+    rw e at (c .before .loop .inv .1)
+
+pub settle-spec : {M : Type 1} → statement M
+settle-spec =
+    tie.close
+    (tie.spec
+    Inv-loop
+    μ-loop
+    loop-holds
+    mul-wide16
+    element-copy-out-wide16
+    wide16-requires
+    plain-of-requires
+    mul-words
+    element-write-words
+    add-i
+    loop-less
+    loop-again
+    returns)
