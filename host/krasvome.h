@@ -58,7 +58,7 @@ uint64_t krasvome_steps(uint8_t *session, size_t session_length, const uint8_t *
 uint64_t krasvome_vectors(uint8_t *session, size_t session_length, const uint8_t *vectors, size_t vectors_length, uint64_t *words, size_t words_length);
 
 /* The same step by step, up to 64 vectors at a time, with the same words. Count: the steps done for each vector; 0 where there are none. 12, 10, 11, 18.
- * It takes up to half a megabyte of stack. */
+ * It needs about half a megabyte of stack. */
 uint64_t krasvome_vectors_steps(uint8_t *session, size_t session_length, const uint8_t *vectors, size_t vectors_length, uint64_t *words, size_t words_length);
 
 /* The last run: for each net a word (bit t is its value at time t, 0 to 63), its value from before, and its flag (0 no change, 1 one change, 2 static hazard,

@@ -21,7 +21,7 @@ isInputKind kind = eqb kind 1
 unfoldable pub rank : List ℕ → ℕ → ℕ
 rank kinds n = count (λ m. isInputKind (getD kinds m 0)) n
 
--- the inputs ahead of net n, in their order, at the front of 256 places
+-- the inputs ahead of net n, in their order, at the front of 256 places; the places after them hold 0
 unfoldable pub inputNets : List ℕ → ℕ → List ℕ
 inputNets kinds zero = replicate 256 0
 inputNets kinds (suc n) = cond (isInputKind (getD kinds n 0)) (set (inputNets kinds n) (rank kinds n) n) (inputNets kinds n)
@@ -34,7 +34,7 @@ given kinds v n = cond (isInputKind (getD kinds n 0)) (isOne (getD v (rank kinds
 abbrev pub byteFits : ℕ → Bool
 byteFits b = ltb b byteLimit
 
--- "10: vector not one byte an input; 11: a vector byte not 0 or 1"
+-- 10: "vector not one byte an input"; 11: "a vector byte not 0 or 1"
 unfoldable pub vectorFits : ℕ → List ℕ → Verdict
 vectorFits inputs v = cond (eqb (length v) inputs) (cond (every byteFits v) Passed (Refused VectorByte)) (Refused VectorLength)
 

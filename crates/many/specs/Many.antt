@@ -20,7 +20,7 @@ pub record Ran : Type 0 where
   pub words : List ℕ
 
 -- vectors of n bytes each, one after another, the first k of them: each leaves a session by some operation, and the words of its history go to the room, after those
--- of the vectors ahead of it
+-- of the vectors ahead of it. One that is refused would leave the words of the last once more; none is, where `manyJudged` says Done
 unfoldable pub manyBy : (Session → List ℕ → Session) → Session → List ℕ → ℕ → ℕ → List ℕ → Ran
 manyBy op s vs n zero room = record { session = s; words = room }
 manyBy op s vs n (suc k) room =

@@ -17,7 +17,7 @@ abbrev pub onceEach : List ℕ → Bool
 onceEach [] = true
 onceEach (e ∷ es) = not (some (λ x. eqb x e) es) && onceEach es
 
--- "16: an order entry is no step, or stands twice"
+-- 16: "an order entry is no step, or stands twice"
 unfoldable pub entriesFit : ℕ → List ℕ → Bool
 entriesFit steps order = every (λ e. ltb e steps) order && onceEach order
 
@@ -25,11 +25,11 @@ entriesFit steps order = every (λ e. ltb e steps) order && onceEach order
 abbrev pub stepsOf : List Net → List ℕ → List Step
 stepsOf c order = map (stepAt (stepList c)) order
 
--- "17: a step stands before one that it reads": what it reads is there from the start, at time 0, or was done
+-- 17: "a step stands before one that it reads": what it reads is there from the start, at time 0, or was done
 unfoldable pub orderReady : List Net → List ℕ → Bool
 orderReady c order = ready sameStep (stepReads c) (λ k. eqb (k .time) 0) (stepsOf c order)
 
--- "15: order not as long as the step list"; then 16, 17
+-- 15: "order not as long as the step list"; then 16, 17
 unfoldable pub orderJudged : List Net → List ℕ → Verdict
 orderJudged c order =
     cond (eqb (length order) (length (stepList c)))

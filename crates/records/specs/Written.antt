@@ -18,7 +18,7 @@ two x = x % 256 ∷ x / 256 ∷ []
 abbrev pub recordOf : ℕ → List ℕ → List ℕ
 recordOf kind body = two (length body) ++ (two kind ++ body)
 
--- "1: empty; 2: one byte, 0 or 1; 3: gate type, then 2 bytes a pin"
+-- the body by kind, 1: "empty"; 2: "one byte, 0 or 1"; 3: "gate type, then 2 bytes a pin"
 abbrev pub bodyOf : Net → List ℕ
 bodyOf input = []
 bodyOf (constant k) = val k ∷ []
@@ -27,7 +27,7 @@ bodyOf (gate ty ps) = ty ∷ each two ps
 unfoldable pub netBytes : Net → List ℕ
 netBytes w = recordOf (kindOf w) (bodyOf w)
 
--- "4: empty: end of card"
+-- kind 4: "empty", "end of card"
 abbrev pub endBytes : List ℕ
 endBytes = recordOf 4 []
 

@@ -1,5 +1,5 @@
--- Up to 64 vectors at once, packed into words: bit i of a net's word is its value in vector i of the pack (source 000, 5.8). What each vector settles at, and where
--- each one starts. Assumes nothing.
+-- Up to 64 vectors at once, packed into words: bit i of a net's word is its value in vector i of the pack (source 000, 5.8, Figure 5-9; what that loses, where
+-- each vector starts, is found ahead of the steps). What each vector settles at, and where each one starts. Assumes nothing.
 use mathlib.Core.Bool.{Bool, false, cond}
 use mathlib.Core.List.{List, map}
 use Prim.Native.Nat.{ℕ, _+_, _*_}
@@ -13,7 +13,7 @@ use Rattle.wiring.specs.Layout.{pinsAt}
 use Rattle.inputs.specs.Inputs.{isInputKind}
 use Rattle.fields.specs.Fields.{pinWord, netsPut}
 
--- byte j of each of m vectors of n bytes, one after another in v
+-- byte j of each of m vectors of n bytes, one after another in v; past the last vector 0
 unfoldable pub packedByte : List ℕ → ℕ → ℕ → ℕ → ℕ
 packedByte v n m j = wordOf 64 (λ i. cond (ltb i m) (isOne (getD v (i * n + j) 0)) false)
 

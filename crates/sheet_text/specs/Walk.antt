@@ -9,7 +9,7 @@ use Rattle.records.specs.Bytes.{u16At}
 use Rattle.sheet_text.specs.declared.Entry.{Entry}
 use Rattle.sheet_text.specs.declared.Entry.the-variants.{Nothing, Bad, Rest, Vector}
 
--- "4: empty: end of card". A record of kind 4 with a body is no end record: it is walked over, and load refuses it (2)
+-- Kind 4: "empty", "end of card". A record of kind 4 with a body is no end record: it is walked over, and load refuses it (2)
 abbrev pub isEnd : (kind len : ℕ) → Bool
 isEnd kind len = eqb kind 4 && eqb len 0
 

@@ -23,7 +23,7 @@ changedBy before word n t = atPin false (λ m. changedAt (before m) (bit (word m
 abbrev pub movedAt : List Bool → List ℕ → ℕ → ℕ → Bool
 movedAt before words = changedBy (λ m. getD before m false) (λ m. getD words m 0)
 
--- "14: that net did not change at that time (times over 63 too)"
+-- 14: "that net did not change at that time (times over 63 too)"
 abbrev pub changedThen : Session → ℕ → ℕ → Bool
 changedThen s n t = ltb t 64 && changedBy (beforeAt s) (wordAt s) n t
 
