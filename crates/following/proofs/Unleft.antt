@@ -277,7 +277,7 @@ left-made b l =
     let h = subst (λ x. Holding x (sessionAfter none (l .calls))) (l .leave) (all-follow (l .calls) (l .zeros) (l .room) (l .bytes) (l .empty) (l .given) .0) in
     (h .room, h .bytes, ap (λ m. m .whole) (h .made))
 
--- of bytes that no calls left of a slice of zeros, every call answers 12 and leaves everything as it was
+-- of bytes that no calls left of a slice whose first 5,895 bytes were 0, every call answers 12 and leaves everything as it was
 pub unleft-12 : (b : List ℕ) → 5895 ≤ length b → Bytes b → ¬ Left b → Unready b
 unfolding packed
 unleft-12 b long ok n = go (yes-or-no (madeAgain b .whole))

@@ -4,8 +4,10 @@ use mathlib.Core.Bool.{Bool}
 use mathlib.Core.List.{List}
 use Prim.Native.Nat.{ℕ, zero, suc, _+_, _*_, _≤_, _<_}
 use native.Mathlib.Omega.{arith}
+use native.Mathlib.Decide.{decLt}
 use native.Mathlib.Numerals.{add-one}
 use lib.ListN.{length, getD}
+use borrow.Author.Tests.{lt-ltb, le-ltb}
 use Rattle.lists.specs.Listed.{listed}
 use Rattle.lists.specs.Places.{area}
 use Rattle.lists.proofs.Places.{turn-fits, length-area}
@@ -21,7 +23,7 @@ use Rattle.packing.specs.Packing.{packVars, vectorWords}
 use Rattle.packing.proofs.Packing.{vars-length}
 use Rattle.lanes.specs.Lanes.{lanesRan}
 use Rattle.lanes.proofs.Runs.{lanes-length}
-use Rattle.packs.specs.Packs.{stepsEach, packWords, packRan, vectorsPut}
+use Rattle.packs.specs.Packs.{stepsEach, packSize, packWords, packRan, vectorsPut}
 
 -- a vector has at most 256 bytes
 pub inputs-few : (s : Session) → HasCard s → s .inputs ≤ 256
@@ -43,8 +45,26 @@ module _ (s : Session) (ended : List Bool) (v : List ℕ) (m : ℕ) where
         ea ∙ ap (λ xs. lanesRan (s .types) (s .counts) (s .places) (s .sets) xs ks) (ef ∙ ap packVars (es ∙ ap (λ ws. listed (startIn (s .kinds) ended ws) 256) ew))
         ∙ ap (lanesRan (s .types) (s .counts) (s .places) (s .sets) (packVars (listed (startIn (s .kinds) ended (packWords s ended v m)) 256))) ek
 
-    pub ran-length : length after ≡ 16384
-    ran-length = ap length ea ∙ lanes-length (s .types) (s .counts) (s .places) (s .sets) filled ks ∙ ap length ef ∙ vars-length starts
+  pub ran-length : length (packRan s ended v m) ≡ 16384
+  unfolding packRan
+  ran-length = lanes-length (s .types) (s .counts) (s .places) (s .sets) (packVars (listed (startIn (s .kinds) ended (packWords s ended v m)) 256)) (stepList (cardOf s)) ∙ vars-length _
+
+-- a pack has some vectors, at most 64, and no more than are left
+pub pack-sized : (left r : ℕ) → 0 < left → r ≡ packSize left → (0 < r) × (r ≤ 64) × (r ≤ left)
+unfolding packSize
+pack-sized left r l e = go (decLt left 64)
+  where
+    go : Dec (left < 64) → (0 < r) × (r ≤ 64) × (r ≤ left)
+    go (yes b) = let q : r ≡ left = e ∙ rw (lt-ltb left 64 b) in (omega arith, omega arith, omega arith)
+    go (no b) = let q : r ≡ 64 = e ∙ rw (le-ltb left 64 (omega arith)) in (omega arith, omega arith, omega arith)
+
+pub size-few : (left : ℕ) → left < 64 → left ≡ packSize left
+unfolding packSize
+size-few left b = rw (lt-ltb left 64 b)
+
+pub size-most : (left : ℕ) → ¬ (left < 64) → 64 ≡ packSize left
+unfolding packSize
+size-most left b = rw (le-ltb left 64 (omega arith))
 
 -- Vectors' words, one after another
 

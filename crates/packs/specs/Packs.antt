@@ -1,7 +1,8 @@
 -- Many vectors by steps: each is what a vector by steps leaves. Assumes nothing.
 use mathlib.Core.List.{List}
 use Prim.Native.Nat.{ℕ, zero, suc, _+_, _-_, _*_}
-use mathlib.Core.Bool.{Bool}
+use mathlib.Core.Bool.{Bool, cond}
+use lib.Dec.{ltb}
 use lib.ListN.{length, getD}
 use Rattle.lists.specs.Listed.{listed}
 use Rattle.lists.specs.Places.{area}
@@ -23,6 +24,10 @@ manySteps = manyBy (λ z v. stepsVectorOf z v .session)
 unfoldable pub stepsEach : Session → ℕ → ℕ
 stepsEach s zero = 0
 stepsEach s (suc k) = length (stepList (cardOf s))
+
+-- how many vectors the next pack has: 64, or as many as are left
+unfoldable pub packSize : ℕ → ℕ
+packSize left = cond (ltb left 64) left 64
 
 -- a pack of m vectors, from the values that the nets ended in: what every vector settles at,
 unfoldable pub packWords : Session → List Bool → List ℕ → ℕ → List ℕ

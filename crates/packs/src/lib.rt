@@ -9,7 +9,7 @@ ghost use Rattle.inputs.specs.Inputs.{byteFits, inputNets};
 ghost use Rattle.card.specs.Session.{cardOf};
 ghost use Rattle.session.specs.Good.{Good};
 ghost use Rattle.listing.specs.Listing.{stepsOf};
-ghost use Rattle.packs.specs.Packs.{manySteps, stepsEach, packHist, packEnds, vectorsPut};
+ghost use Rattle.packs.specs.Packs.{manySteps, stepsEach, packSize, packRan, packHist, packEnds, vectorsPut};
 use card::Session;
 
 // A pack of m vectors, from the values that the nets ended in: their histories, and the values that the last of them ends in.
@@ -30,7 +30,7 @@ fn run_pack<'a>(
     requires { ⌜ (0 < m) × (m ≤ 64) × (m * s .inputs ≤ length (now v)) × (length (now vars) ≡ 16384) × (length (now hist) ≡ 16384) × (s .nets ≤ 256) ⌝ }
     ensures { λ r. ⌜ r ≡ packEnds s (now (ended .entry)) (now (v .entry)) m ⌝ }
     ensures { λ r. ⌜ now (hist .exit) ≡ packHist s (now (ended .entry)) (now (v .entry)) m (now (hist .entry)) ⌝ }
-    ensures { λ r. ⌜ length (now (vars .exit)) ≡ 16384 ⌝ }
+    ensures { λ r. ⌜ now (vars .exit) ≡ packRan s (now (ended .entry)) (now (v .entry)) m ⌝ }
 {
     let words = settling::settle_pack(
         inputs,
@@ -76,8 +76,7 @@ fn put_vectors<'a>(hist: &'a [u64; 16384], m: usize, nets: usize, room: &mut [u6
 
 // How many vectors the next pack has.
 fn next_pack(left: usize) -> u32
-    requires { ⌜ 0 < left ⌝ }
-    ensures { λ r. ⌜ (0 < r) × (r ≤ 64) × (r ≤ left) ⌝ }
+    ensures { λ r. ⌜ r ≡ packSize left ⌝ }
 {
     if left < 64 { left as u32 } else { 64 }
 }

@@ -16,7 +16,7 @@ use Rattle.steps.specs.Runs.{Doable}
 use Rattle.steps.proofs.Runs.{steps-doable}
 use Rattle.packing.specs.Packing.{packHistories}
 use Rattle.packs.specs.Packs.{packWords}
-use Rattle.packs.proofs.Made.{inputs-few, words-made, ran-made, ran-length}
+use Rattle.packs.proofs.Made.{inputs-few, words-made, ran-made}
 use Rattle.packs.proofs.run_pack.Statement.{statement}
 use Rattle.packs.proofs.run_pack.Tie as tie
 
@@ -63,14 +63,9 @@ returns : tie.Need-returns
 returns c =
     let a = c .before .before .before .before .before .before .before .before .before .before .before .before .before .before .before .before .before .before .before .before .before .before .before .before .before .before .before .before .args in
     let s = a .t1 in
-    let words = settles (c .before .before .before .before .before .before .before .before .before .before .before .before .before .before .before .before .before .before .before .before .before) in (
-      c .values-at .ensures ∙ ap (λ ws. valuesIn ws (a .m - 1)) words,
-      (
-        c .before .before .histories .ensures
-            ∙ ap (λ vars. packHistories (s .sets) vars (s .nets) (a .hist .now)) (ran-made s (a .ended .now) (a .v .now) (a .m) _ _ _ _ _ words (c .before .before .before .before .before .before .before .before .before .before .before .before .before .before .before .before .before .starts .ensures) (c .before .before .before .before .before .before .before .before .before .before .before .before .before .before .fill .ensures) (c .before .before .before .before .before .before .before .run-list .ensures .0) (c .before .before .before .before .before .before .before .before .before .before .before .before .before .before .before .before .before .before .before .before .before .before .before .before .before .before .before .before .pre .1 .0 .3)),
-        ran-length s (a .ended .now) (a .v .now) (a .m) _ _ _ _ _ words (c .before .before .before .before .before .before .before .before .before .before .before .before .before .before .before .before .before .starts .ensures) (c .before .before .before .before .before .before .before .before .before .before .before .before .before .before .fill .ensures) (c .before .before .before .before .before .before .before .run-list .ensures .0),
-      ),
-    )
+    let words = settles (c .before .before .before .before .before .before .before .before .before .before .before .before .before .before .before .before .before .before .before .before .before) in
+    let ran = ran-made s (a .ended .now) (a .v .now) (a .m) _ _ _ _ _ words (c .before .before .before .before .before .before .before .before .before .before .before .before .before .before .before .before .before .starts .ensures) (c .before .before .before .before .before .before .before .before .before .before .before .before .before .before .fill .ensures) (c .before .before .before .before .before .before .before .run-list .ensures .0) (c .before .before .before .before .before .before .before .before .before .before .before .before .before .before .before .before .before .before .before .before .before .before .before .before .before .before .before .before .pre .1 .0 .3) in
+    (c .values-at .ensures ∙ ap (λ ws. valuesIn ws (a .m - 1)) words, (c .before .before .histories .ensures ∙ ap (λ vars. packHistories (s .sets) vars (s .nets) (a .hist .now)) ran, ran))
 
 pub run-pack-spec : {M : Type 1} → statement M
 run-pack-spec =

@@ -1,7 +1,7 @@
 -- `packs::run_packs` meets its contract. The loop's invariant: the nets ended as so many vectors leave them, and the words of those vectors are put. The measure is what is
 -- left of the vectors. Assumes nothing.
 use mathlib.Core.Path.{_≡_, refl, sym, ap, _∙_}
-use Prim.Native.Nat.{_+_, _-_, _*_, _≤_}
+use Prim.Native.Nat.{_+_, _-_, _*_, _≤_, _<_}
 use native.Mathlib.Nat.{zero-mul, add-mul, mul-le-mul-right}
 use native.Mathlib.Omega.{arith}
 use lib.ListN.{length, take, drop}
@@ -22,7 +22,7 @@ use Rattle.many.proofs.Many.{many-length}
 use Rattle.packing.proofs.Packing.{histories-length}
 use Rattle.packs.specs.Packs.{stepsEach, vectorsPut}
 use Rattle.packs.proofs.Packs.{many-steps-same, pack-put, pack-ends}
-use Rattle.packs.proofs.Made.{none-done, each-done}
+use Rattle.packs.proofs.Made.{ran-length, pack-sized, none-done, each-done}
 use Rattle.packs.proofs.run_packs.Statement.{statement}
 use Rattle.packs.proofs.run_packs.Tie as tie
 
@@ -45,9 +45,13 @@ few c = list-few (c .before .before .before .before .before .before .before .bef
 named : (c : tie.After-put-list Inv-loop μ-loop) → stepsOf (c .put-list .last .0) (c .put-list .last .1 .0) (c .put-list .result) ≡ stepList (cardOf (c .before .before .before .before .before .before .before .before .before .before .before .args .t1))
 named c = held-steps (list-held (c .before .before .before .before .before .before .before .before .before .before .before .args .t1) (card (c .before .before .before .before .before .before .before .before .before .before .before)) (c .put-list .ensures)) (search needs) (search needs) (few c)
 
+-- the next pack's size
+sized : (c : tie.After-next-pack Inv-loop μ-loop) → (0 < c .next-pack .result) × (c .next-pack .result ≤ 64) × (c .next-pack .result ≤ c .before .before .before .before .before .before .before .before .before .before .before .before .before .before .before .before .before .args .k - c .before .before .loop .done)
+sized c = pack-sized (c .before .before .before .before .before .before .before .before .before .before .before .before .before .before .before .before .before .args .k - c .before .before .loop .done) (c .next-pack .result) (omega (arith, c .before .loop-test .taken)) (c .next-pack .ensures)
+
 -- the next pack: so many vectors are left, their bytes are there, and room for their words
 left-some : (c : tie.After-next-pack Inv-loop μ-loop) → c .before .before .loop .done + c .next-pack .result ≤ c .before .before .before .before .before .before .before .before .before .before .before .before .before .before .before .before .before .args .k
-left-some c = omega (arith, c .next-pack .ensures .2, c .before .loop-test .taken)
+left-some c = omega (arith, sized c .2, c .before .loop-test .taken)
 
 pack-there : (c : tie.After-next-pack Inv-loop μ-loop) → (c .before .before .loop .done + c .next-pack .result) * c .before .before .before .before .before .before .before .before .before .before .before .before .before .before .before .before .before .args .t1 .inputs ≤ length (c .before .before .before .before .before .before .before .before .before .before .before .before .before .before .before .before .before .args .vectors .now)
 pack-there c =
@@ -123,12 +127,12 @@ run-pack-requires c κs =
     let long : length (part (a .vectors .now) (l .done * a .t1 .inputs) (m * a .t1 .inputs)) ≡ m * a .t1 .inputs =
     ap length (part-listed (a .vectors .now) (l .done * a .t1 .inputs) (m * a .t1 .inputs) (omega (arith, pack-there n, add-mul (l .done) m (a .t1 .inputs)))) ∙ length-listed _ (m * a .t1 .inputs) in
     let size = ap length (bytes-are n) ∙ long in
-    (s .pre .0, ((s .pre .1 .0 .0, c .before .before .before .before .before .before .before .before .before .before .before .before .before .before .before .before .before .before .before .input-nets .ensures, few (c .before .before .before .before .before .before .before .before .before .before .before .before .before), named (c .before .before .before .before .before .before .before .before .before .before .before .before .before)), (n .next-pack .ensures .0, n .next-pack .ensures .1, omega (arith, size), l .inv .6, l .inv .7, s .pre .1 .1 .1)))
+    (s .pre .0, ((s .pre .1 .0 .0, c .before .before .before .before .before .before .before .before .before .before .before .before .before .before .before .before .before .before .before .input-nets .ensures, few (c .before .before .before .before .before .before .before .before .before .before .before .before .before), named (c .before .before .before .before .before .before .before .before .before .before .before .before .before)), (sized n .0, sized n .1, omega (arith, size), l .inv .6, l .inv .7, s .pre .1 .1 .1)))
 
 put-vectors-requires : tie.Need-put-vectors-requires Inv-loop μ-loop
 put-vectors-requires c κs =
     let n = c .before .before .before .before .before .before .before .before .before .before in
-    (n .next-pack .ensures .1, c .before .before .before .before .before .before .before .before .before .before .before .before .before .before .before .before .before .before .before .before .before .before .before .before .before .before .before .pre .1 .1 .1, omega (arith, words-there n, room-same n))
+    (sized n .1, c .before .before .before .before .before .before .before .before .before .before .before .before .before .before .before .before .before .before .before .before .before .before .before .before .before .before .before .pre .1 .1 .1, omega (arith, words-there n, room-same n))
 
 add-done : tie.Need-add-done Inv-loop μ-loop
 add-done c = let r = c .before .before .before .before .before .before .before .before .before .before .before .before .before .before .before .before .before .before .before .before .before .before .before .before .before .before .before .before .before .before .fits in let b = left-some (c .before .before .before .before .before .before .before .before .before .before .before .before .before) in search needs
@@ -146,7 +150,7 @@ add-at : tie.Need-add-at Inv-loop μ-loop
 add-at c = let q = c .before .before .before .before .before .before .before .before .before .before .before .before .before .before .before .before .before .before .before .before .before .before .before .before .before .before .before .before .before .before .good in let b = words-there (c .before .before .before .before .before .before .before .before .before .before .before .before .before) in search needs
 
 loop-less : tie.Need-loop-less Inv-loop μ-loop
-loop-less c = let b = left-some (c .before .before .before .before .before .before .before .before .before .before .before .before .before) in let p = c .before .before .before .before .before .before .before .before .before .before .before .before .before .next-pack .ensures .0 in search needs
+loop-less c = let b = left-some (c .before .before .before .before .before .before .before .before .before .before .before .before .before) in let p = sized (c .before .before .before .before .before .before .before .before .before .before .before .before .before) .0 in search needs
 
 loop-again : tie.Need-loop-again Inv-loop μ-loop
 loop-again c =
@@ -161,12 +165,12 @@ loop-again c =
       left-some n,
       ap (λ x. x + m * s .inputs) (l .inv .1) ∙ sym (add-mul (l .done) m (s .inputs)),
       ap (λ x. x + m * s .nets) (l .inv .2) ∙ sym (add-mul (l .done) m (s .nets)),
-      pack .0 ∙ pack-ends s (start .pre .0) (start .pre .1 .0 .0) (a .vectors .now) (a .room .now) (start .pre .1 .0 .1) (l .done) m (n .next-pack .ensures .1) (pack-there n) (l .ended) (l .inv .3) _ (bytes-are n) (n .next-pack .ensures .0),
+      pack .0 ∙ pack-ends s (start .pre .0) (start .pre .1 .0 .0) (a .vectors .now) (a .room .now) (start .pre .1 .0 .1) (l .done) m (sized n .1) (pack-there n) (l .ended) (l .inv .3) _ (bytes-are n) (sized n .0),
       c .before .before .put-vectors .ensures
           ∙ (λ z. vectorsPut (pack .1 .0 z) (s .nets) (l .inv .4 z) (l .inv .2 z) m)
-          ∙ pack-put s (start .pre .0) (start .pre .1 .0 .0) (a .vectors .now) (a .room .now) (start .pre .1 .0 .1) (l .done) m (n .next-pack .ensures .1) (pack-there n) (l .ended) (l .inv .3) _ (bytes-are n) (start .pre .1 .1 .1) (l .hist) m (omega arith),
-      each-done s _ (l .done + m) (omega (arith, n .next-pack .ensures .0)) total,
-      pack .1 .1,
+          ∙ pack-put s (start .pre .0) (start .pre .1 .0 .0) (a .vectors .now) (a .room .now) (start .pre .1 .0 .1) (l .done) m (sized n .1) (pack-there n) (l .ended) (l .inv .3) _ (bytes-are n) (start .pre .1 .1 .1) (l .hist) m (omega arith),
+      each-done s _ (l .done + m) (omega (arith, sized n .0)) total,
+      ap length (pack .1 .1) ∙ ran-length s _ _ m,
       ap length (pack .1 .0) ∙ histories-length _ _ (s .nets) (start .pre .1 .1 .1) _,
     )
 
