@@ -1,9 +1,16 @@
-/* The field algorithm written by hand in C, to measure the library against; and as a library of its own with seeded faults, to see that the comparison finds
- * them: many vectors by steps are those of speed/packs_by_hand.c there. Nothing here is proved. */
+/* The field algorithm written by hand in C, to measure the library against. Nothing here is proved. The calls of krasvome.h over this engine and over the steps by hand
+ * (host/calls_by_hand.c) are a library of their own in which faults are seeded, to see that the comparison finds each (host/faults.txt). */
 #ifndef BY_HAND_H
 #define BY_HAND_H
 
 #include "simulator.h"
+
+#ifdef FAULTS
+extern int hand_fault; /* the fault that is seeded; 0: none */
+#define FAULT(k) (hand_fault == (k))
+#else
+#define FAULT(k) 0
+#endif
 
 struct hand {
     int nets, inputs, gates;

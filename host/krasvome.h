@@ -5,7 +5,11 @@
  *
  * Every call answers one number that holds two: KRASVOME_NUMBER is 0 for done or one of the refusals below, KRASVOME_COUNT says how many. A refused call
  * has the count 0 and changes no byte that it was lent. A slice of the session that is shorter than KRASVOME_SESSION gets KRASVOME_NO_ROOM, bytes that
- * no call left get KRASVOME_NOT_READY. */
+ * no call left get KRASVOME_NOT_READY.
+ *
+ * What you have to see to: behind each pointer there are as many entries as its length says; `uint64_t` rooms are aligned, as C asks anyway; and what a call may
+ * write (a session that is not const, words, before values, flags) overlaps nothing else that it is lent. NULL with the length 0 is an empty slice, and is met as one:
+ * a card that is cut short, a vector or room that is too short, no vectors. */
 #ifndef KRASVOME_H
 #define KRASVOME_H
 
@@ -16,9 +20,10 @@
 extern "C" {
 #endif
 
-/* What the session's bytes are: byte 0 says what is kept (0 nothing, 1 a card, 2 a card at rest, 3 a card that a vector moved); bytes 1 and 2 are the length
- * of the card's bytes, low byte first; from byte 3 on there is room for the vector before the last one, from 259 on for the last one, 256 bytes each; from
- * 515 on for the card's own bytes. What is not used is 0. */
+/* What the session's bytes are: byte 0 says what is kept (0 nothing, 1 a card, 2 a card at rest, 3 a card that a vector moved by bit-fields, 4 by steps); bytes 1
+ * and 2 are the length of the card's bytes, low byte first; from byte 3 on there is room for the vector before the last one, from 259 on for the last one, 256 bytes
+ * each; from 515 on for the card's own bytes. What is not used is 0. Each call makes the session again from them, the last vector by the engine that ran it: what
+ * krasvome_history shows after a run by steps was run by steps. */
 #define KRASVOME_SESSION 5895
 
 #define KRASVOME_NUMBER(answer) ((unsigned)((answer) & 255u))
@@ -57,8 +62,8 @@ uint64_t krasvome_steps(uint8_t *session, size_t session_length, const uint8_t *
  * to `words`, nets of them at a time, as krasvome_history gives them. Count: 0. 12, 10 (bytes that are no whole number of vectors), 11, 18. */
 uint64_t krasvome_vectors(uint8_t *session, size_t session_length, const uint8_t *vectors, size_t vectors_length, uint64_t *words, size_t words_length);
 
-/* The same step by step, up to 64 vectors at a time, with the same words. Count: the steps done for each vector; 0 where there are none. 12, 10, 11, 18.
- * It needs about half a megabyte of stack. */
+/* The same step by step, one vector after another. Count: the steps done for each vector; 0 where there are none. 12, 10, 11, 18. The words are those of
+ * krasvome_vectors, which takes about a microsecond a vector on the largest cards where this call takes 30 to 70: use that one, unless it is the steps that you want. */
 uint64_t krasvome_vectors_steps(uint8_t *session, size_t session_length, const uint8_t *vectors, size_t vectors_length, uint64_t *words, size_t words_length);
 
 /* The last run: for each net a word (bit t is its value at time t, 0 to 63), its value from before, and its flag (0 no change, 1 one change, 2 static hazard,

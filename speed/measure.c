@@ -1,8 +1,8 @@
-/* Times of the engines on one card, as the mean of many vectors: the library's field engine inside the call that runs many vectors, the same algorithm by hand, and
- * the event-driven simulator, with a given part of the inputs changing. One line: nets, gates, depth, steps, inputs, percent, and nanoseconds a vector of each;
- * then those of a call for one vector, by fields and by steps, each of which makes the session again from its bytes; then those of the steps by hand, as the library
- * does them and with all reads looked up ahead; then those of the step engine inside the call that runs many vectors, and of both ways by hand to do the same;
- * last the part of the steps, in a hundred, that change their net. The words of each are compared with the simulator's.
+/* Times of the engines on one card, as the mean of many vectors, with a given part of the inputs changing. One line: nets, gates, depth, steps, inputs, percent; then
+ * nanoseconds a vector: the library's field engine inside the call that runs many vectors, the same algorithm by hand, the event-driven simulator; the library's step
+ * engine inside the call that runs many vectors by steps, the same algorithm by hand, the same with all reads looked up ahead; a call for one vector by fields and by
+ * steps, each of which makes the session again from its bytes; last the part of the steps, in a hundred, that change their net. The words of each are compared with the
+ * simulator's.
  *
  *     measure SHAPE SIZE PERCENT        SHAPE: largest, ladder, random
  *     measure SHAPE SIZE PERCENT show   the card and the vectors in hex instead, a line each */
@@ -10,7 +10,6 @@
 
 #include "by_hand.h"
 #include "krasvome.h"
-#include "packs_by_hand.h"
 #include "random_cards.h"
 #include "simulator.h"
 #include "steps_by_hand.h"
@@ -60,7 +59,6 @@ int main(int argc, char **argv)
     static struct sim s;
     static struct hand h;
     static struct hand_steps st;
-    static struct hand_packs pk;
     uint8_t bytes[CARD_ROOM], session[KRASVOME_SESSION] = {0};
     struct random_source r = {2026};
     if (argc < 4)
@@ -90,6 +88,7 @@ int main(int argc, char **argv)
     uint8_t rest[SIM_NETS] = {0};
     hand_load(&h, &s);
     hand_steps_load(&st, &h);
+    hand_steps_look_up(&st, &h);
     uint8_t *before = malloc(CALLS * nets);
     if (!before || st.steps != s.pairs)
         return 2;
@@ -114,7 +113,7 @@ int main(int argc, char **argv)
         if (memcmp(st.word, h.word, nets * sizeof *words))
             return 1;
     }
-    double fields = 1e30, hand = 1e30, events = 1e30, call = 1e30, steps = 1e30, steps_hand = 1e30, ready = 1e30, packs = 1e30, packs_hand = 1e30, packs_ready = 1e30;
+    double fields = 1e30, hand = 1e30, events = 1e30, steps = 1e30, steps_hand = 1e30, ready = 1e30, call = 1e30, call_steps = 1e30;
     for (int turn = 0; turn < 40; turn++) {
         memset(session, 0, sizeof session);
         krasvome_load(session, sizeof session, bytes, length);
@@ -127,10 +126,10 @@ int main(int argc, char **argv)
             return 1;
         krasvome_rest(session, sizeof session, rest, n);
         t = now();
-        if (krasvome_vectors_steps(session, sizeof session, vectors, VECTORS * n, words, room) != (uint64_t)s.pairs << 8)
+        if (krasvome_vectors_steps(session, sizeof session, vectors, CALLS * n, words, room) != (uint64_t)s.pairs << 8)
             return 1;
-        packs = less(packs, (now() - t) / VECTORS);
-        if (memcmp(words, wanted, room * sizeof *words))
+        steps = less(steps, (now() - t) / CALLS);
+        if (memcmp(words, wanted, CALLS * nets * sizeof *words))
             return 1;
         t = now();
         for (size_t k = 0; k < CALLS; k++)
@@ -141,7 +140,7 @@ int main(int argc, char **argv)
         for (size_t k = 0; k < CALLS; k++)
             if (krasvome_steps(session, sizeof session, vectors + k * n, n) != (uint64_t)s.pairs << 8)
                 return 1;
-        steps = less(steps, (now() - t) / CALLS);
+        call_steps = less(call_steps, (now() - t) / CALLS);
         t = now();
         for (size_t k = 0; k < CALLS; k++)
             hand_steps_vector(&st, &h, before + k * nets, vectors + k * n);
@@ -151,18 +150,6 @@ int main(int argc, char **argv)
             hand_steps_ready(&st, &h, before + k * nets, vectors + k * n);
         ready = less(ready, (now() - t) / CALLS);
         hand_rest(&h, &s, rest);
-        hand_packs_rest(&pk, &h);
-        t = now();
-        hand_packs_vectors(&pk, &st, &h, vectors, VECTORS, words);
-        packs_hand = less(packs_hand, (now() - t) / VECTORS);
-        if (memcmp(words, wanted, room * sizeof *words))
-            return 1;
-        hand_packs_rest(&pk, &h);
-        t = now();
-        hand_packs_ready(&pk, &st, &h, vectors, VECTORS, words);
-        packs_ready = less(packs_ready, (now() - t) / VECTORS);
-        if (memcmp(words, wanted, room * sizeof *words))
-            return 1;
         t = now();
         for (size_t k = 0; k < VECTORS; k++) {
             hand_vector(&h, vectors + k * n);
@@ -179,7 +166,7 @@ int main(int argc, char **argv)
         }
         events = less(events, (now() - t) / VECTORS);
     }
-    printf("%d %d %d %d %d %u %.0f %.0f %.0f %.0f %.0f %.0f %.0f %.0f %.0f %.0f %.1f\n", s.nets, h.gates, s.depth, s.pairs, s.inputs, percent, fields, hand, events, call, steps, steps_hand, ready, packs,
-           packs_hand, packs_ready, 100 * changes / VECTORS / s.pairs);
+    printf("%d %d %d %d %d %u %.0f %.0f %.0f %.0f %.0f %.0f %.0f %.0f %.1f\n", s.nets, h.gates, s.depth, s.pairs, s.inputs, percent, fields, hand, events, steps, steps_hand, ready,
+           call, call_steps, 100 * changes / VECTORS / s.pairs);
     return 0;
 }

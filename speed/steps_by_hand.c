@@ -1,7 +1,5 @@
 #include "steps_by_hand.h"
 
-#include <string.h>
-
 static void make_list(struct hand_steps *st, const struct hand *h)
 {
     int k = 0;
@@ -15,9 +13,9 @@ static void make_list(struct hand_steps *st, const struct hand *h)
 
 void hand_steps_load(struct hand_steps *st, const struct hand *h)
 {
-    memset(st, 0, sizeof *st);
     for (int n = 0; n <= SIM_NETS; n++)
         st->set[n] = 1;
+    st->variable[SIM_NETS] = 0;
     for (int g = 0; g < h->gates; g++) {
         int n = h->order[g];
         uint64_t set = 0;
@@ -26,6 +24,10 @@ void hand_steps_load(struct hand_steps *st, const struct hand *h)
         st->set[n] = set << 1;
     }
     make_list(st, h);
+}
+
+void hand_steps_look_up(struct hand_steps *st, const struct hand *h)
+{
     for (int k = 0; k < st->steps; k++)
         for (int p = 0; p < h->pins[st->net[k]]; p++) {
             uint16_t from = h->pin[st->net[k]][p];
@@ -36,7 +38,7 @@ void hand_steps_load(struct hand_steps *st, const struct hand *h)
 static void start(struct hand_steps *st, const struct hand *h, const uint8_t *before, const uint8_t *vector)
 {
     for (int n = 0; n < h->nets; n++)
-        st->variable[n] = before[n] ? ~UINT64_C(0) : 0;
+        st->variable[n] = before[n] && !(FAULT(10) && h->pins[n]) ? ~UINT64_C(0) : 0;
     for (int i = 0; i < h->inputs; i++)
         st->variable[h->input[i]] = vector[i] ? ~UINT64_C(0) : 0;
 }
@@ -49,7 +51,10 @@ static inline void put(struct hand_steps *st, int n, int time, uint64_t value)
 static void fill(struct hand_steps *st, const struct hand *h)
 {
     for (int n = 0; n < h->nets; n++) {
-        uint64_t known = st->set[n] | 1, v = st->variable[n] & known;
+        uint64_t set = st->set[n];
+        if (FAULT(9) && set)
+            set &= ~(UINT64_C(1) << (63 - __builtin_clzll(set)));
+        uint64_t known = set | 1, v = st->variable[n] & known;
         for (int s = 1; s < 64; s += s) {
             v |= (v << s) & ~known;
             known |= known << s;
@@ -58,19 +63,42 @@ static void fill(struct hand_steps *st, const struct hand *h)
     }
 }
 
-void hand_steps_vector(struct hand_steps *st, const struct hand *h, const uint8_t *before, const uint8_t *vector)
+/* Where a step at a time from 1 to 63 reads a pin. */
+static inline int read_at(const struct hand_steps *st, int pin, int time)
 {
+    if (FAULT(6)) /* not above the time */
+        return 63 - __builtin_clzll((st->set[pin] | 1) & ~UINT64_C(0) >> (63 - time));
+    return hand_largest_below(st->set[pin], time);
+}
+
+static void do_step(struct hand_steps *st, const struct hand *h, int k)
+{
+    int n = st->net[k], time = st->time[k], type = h->type[n], pins = h->pins[n];
+    const uint16_t *pin = h->pin[n];
+    uint64_t known = st->variable[pin[0]] >> read_at(st, pin[0], time) & 1;
+    for (int p = 1; p < pins; p++)
+        known = hand_with_pin(type, known, st->variable[pin[p]] >> read_at(st, pin[p], time) & 1);
+    put(st, n, time, known ^ (uint64_t)(type & 1));
+}
+
+int hand_steps_vector(struct hand_steps *st, const struct hand *h, const uint8_t *before, const uint8_t *vector)
+{
+    int done = 0;
     make_list(st, h);
     start(st, h, before, vector);
-    for (int k = 0; k < st->steps; k++) {
-        int n = st->net[k], time = st->time[k], type = h->type[n], pins = h->pins[n];
-        const uint16_t *pin = h->pin[n];
-        uint64_t known = st->variable[pin[0]] >> hand_largest_below(st->set[pin[0]], time) & 1;
-        for (int p = 1; p < pins; p++)
-            known = hand_with_pin(type, known, st->variable[pin[p]] >> hand_largest_below(st->set[pin[p]], time) & 1);
-        put(st, n, time, known ^ (uint64_t)(type & 1));
+    for (int k = 0; k < st->steps; k++, done++) {
+        int last = k == st->steps - 1;
+        if (FAULT(7) && last && k)
+            do_step(st, h, k - 1);
+        else if (!(FAULT(8) && last))
+            do_step(st, h, k);
+        if (FAULT(11) && last) {
+            do_step(st, h, k);
+            done++;
+        }
     }
     fill(st, h);
+    return done;
 }
 
 void hand_steps_ready(struct hand_steps *st, const struct hand *h, const uint8_t *before, const uint8_t *vector)

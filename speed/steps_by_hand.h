@@ -34,13 +34,15 @@ static inline uint64_t hand_with_pin(int type, uint64_t known, uint64_t value)
     return type > 5 ? known ^ value : type > 3 ? known | value : known & value;
 }
 
-/* The sets, the list and what its steps read, of a card that was read for the fields. */
+/* The sets and the list of a card that was read for the fields; and what its steps read. */
 void hand_steps_load(struct hand_steps *st, const struct hand *h);
+void hand_steps_look_up(struct hand_steps *st, const struct hand *h);
 
-/* A vector from the settled values `before`: the list is made, each step finds what it reads, and the histories are filled. They stand in `word`. */
-void hand_steps_vector(struct hand_steps *st, const struct hand *h, const uint8_t *before, const uint8_t *vector);
+/* A vector from the settled values `before`: the list is made, each step finds what it reads, and the histories are filled. They stand in `word`. Returns the steps
+ * done. */
+int hand_steps_vector(struct hand_steps *st, const struct hand *h, const uint8_t *before, const uint8_t *vector);
 
-/* The same with the list and all reads at hand. */
+/* The same with the list and all reads looked up. */
 void hand_steps_ready(struct hand_steps *st, const struct hand *h, const uint8_t *before, const uint8_t *vector);
 
 #endif

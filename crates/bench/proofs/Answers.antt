@@ -59,7 +59,7 @@ module _ (s : Session) (h : HasCard s) where
         let r = step-low s h _ (list-only c _ (at-in (stepList c) e noStep b)) in
         let n = list-named .net-is e b in
         let t = list-named .time-is e b in
-        record { number = omega (arith, list-few s h held); net = omega (arith, r .0); early = omega (arith, r .1); late = omega (arith, r .2) }
+        record { number = omega (arith, list-few s h held); net = omega (arith, r .0); time = omega (arith, r .2) }
 
     module _ (order : List ℕ) (verdict : Verdict) (judged : verdict ≡ judgedIn (s .counts) (s .places) (s .sets) nets times total order) where
       pub verdict-is : verdict ≡ orderJudged c order

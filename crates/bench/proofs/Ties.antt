@@ -16,10 +16,10 @@ use Rattle.lists.proofs.Bools.{or-later, not-both}
 use Rattle.lists.proofs.Tests.{map-on, out-map}
 use Rattle.lists.proofs.Order.{at-in}
 use Rattle.word.specs.Word.{bit, wordOf}
-use Rattle.word.specs.Times.{zeroIn}
+use Rattle.word.specs.Times.{noTime}
 use Rattle.word.proofs.Bits.{bit-zero, bit-suc, bit-none}
 use Rattle.word.proofs.Words.{bit-word}
-use Rattle.word.proofs.Sets.{greatest-lt}
+use Rattle.word.proofs.Sets.{zero-lt}
 use Rattle.rule.specs.Net.{Net, netAt, pins, isSource, openPin, atPin}
 use Rattle.rule.specs.Chain.{pcSet}
 use Rattle.rule.specs.Run.{ready, mark}
@@ -85,7 +85,7 @@ module _ (s : Session) (h : HasCard s) where
 
   read-readable : (k : Step) (p : ℕ) → InRange k → (p < length c) ⊎ (p ≡ openPin) → (ahead (readAt c (k .time) p) ≡ true) ⊎ IsStep c (readAt c (k .time) p) → Readable (readAt c (k .time) p)
   unfolding readAt
-  read-readable k p r (inl q) w = let few = card-fits s h .fits .few in inl (omega arith, omega (arith, greatest-lt (zeroIn (pcSet c p)) (k .time) 0 (r .1)))
+  read-readable k p r (inl q) w = let few = card-fits s h .fits .few in inl (omega arith, omega (arith, zero-lt (pcSet c p) (k .time) noTime (r .1)))
   read-readable k p r (inr q) (inl a) = inr (q, a)
   read-readable k p r (inr q) (inr t) = absurd (not-both (isSource (netAt c p)) (ap (λ x. isSource (netAt c x)) q ∙ open-source) (t .gated))
 
@@ -93,7 +93,7 @@ module _ (s : Session) (h : HasCard s) where
   unfolding stepReads
   reads-readable k j r m =
       let o = out-map (readAt c (k .time)) (pins c (k .net)) j m in
-      subst Readable (sym (o .2)) (read-readable k (o .0) r (h .accepted .named (k .net) (o .0) (o .1)) (read-there c (k .time) (o .0)))
+      subst Readable (sym (o .2)) (read-readable k (o .0) r (h .accepted .named (k .net) (o .0) (o .1)) (read-there c (k .time) (o .0) (r .1)))
 
   -- the words tell of these variables what a test tells
   abbrev Agree : List ℕ → (Step → Bool) → Type 0

@@ -1,12 +1,12 @@
 -- What a session that holds a card keeps of it. Assumes nothing.
 use mathlib.Core.Path.{_≡_, refl, sym, ap, ap₂, _∙_, subst}
-use mathlib.Core.Bool.{true, false, false≢true}
+use mathlib.Core.Bool.{true, false, cond, false≢true}
 use mathlib.Core.List.{List}
 use mathlib.Core.Logic.{_⊎_}
 use Prim.Native.Nat.{ℕ, _+_, _≤_, _<_}
 use native.Mathlib.Omega.{arith}
 use native.Mathlib.Decide.{decLe}
-use lib.Dec.{eqb, lit<}
+use lib.Dec.{eqb, ltb, lit<}
 use lib.ListN.{length, getD}
 use borrow.Author.Tests.{lt-ltb, le-ltb, eqb-false}
 use Rattle.lists.specs.Entries.{_∈_}
@@ -33,7 +33,7 @@ use Rattle.card.specs.declared.Session.{Session}
 use Rattle.card.specs.Session.{none, inputsOf, sessionOf, cardOf, resting}
 use Rattle.card.specs.Allowed.{Legible, Fed, Accepted}
 use Rattle.card.specs.Held.{HasCard, Carded}
-use Rattle.card.specs.Asked.{netAsked}
+use Rattle.card.specs.Asked.{netAsked, depthAsked, stepsAsked}
 use Rattle.card.proofs.Tests.{tells-false, fed-tells, deep-tells, long-tells}
 
 -- a legible card fits the arrays, its gates have pins and known types
@@ -57,6 +57,10 @@ module _ (s : Session) (h : HasCard s) where
 
   abbrev kept : Session
   kept = resting (sessionOf c) (s .rested) (s .before) (s .words)
+
+  pub loaded-is : s .loaded ≡ true
+  unfolding sessionOf
+  loaded-is = ap (λ x. x .loaded) (h .laid)
 
   pub nets-are : s .nets ≡ length c
   unfolding sessionOf
@@ -164,9 +168,15 @@ module _ (s : Session) (h : HasCard s) where
 
   -- the words are its PC-sets, and their sizes added are the number of its steps
 
-  pub card-sets : (n : ℕ) → n < 256 → getD (s .sets) n 0 ≡ wordOf 64 (pcSet c n)
+  set-at : (n : ℕ) → n < 256 → getD (s .sets) n 0 ≡ cond (ltb n (length c)) (wordOf 64 (pcSet c n)) 0
   unfolding setWords
-  card-sets n l = ap (λ xs. getD xs n 0) sets-are ∙ listed-at (λ m. wordOf 64 (pcSet c m)) 256 n 0 l
+  set-at n l = ap (λ xs. getD xs n 0) sets-are ∙ listed-at (λ m. cond (ltb m (length c)) (wordOf 64 (pcSet c m)) 0) 256 n 0 l
+
+  pub card-sets : (n : ℕ) → n < length c → getD (s .sets) n 0 ≡ wordOf 64 (pcSet c n)
+  card-sets n l = let few = card-fits .fits .few in set-at n (omega arith) ∙ rw (lt-ltb n (length c) l)
+
+  pub past-sets : (n : ℕ) → n < 256 → length c ≤ n → getD (s .sets) n 0 ≡ 0
+  past-sets n b l = set-at n b ∙ rw (le-ltb n (length c) l)
 
   pub steps-is : sizesOf (s .sets) (listed (λ i. getD (s .order) i 0) (s .gates)) ≡ length (stepList c)
   steps-is = ap₂ sizesOf sets-are order-back ∙ sizes-laid c (h .accepted .free) (card-fits .fits) card-depth
@@ -189,6 +199,16 @@ asked-here s h n l w e b el ew =
     let x : l ≡ level (cardOf s) n = el ∙ card-levels s h n b in
     let y : w ≡ wordOf 64 (pcSet (cardOf s) n) = ew ∙ card-sets s h n (omega (arith, nets-are s h)) in
     ap₂ Net x y ∙ rw (e, lt-ltb n (s .nets) b)
+
+-- The depth and the number of steps of a card that is loaded
+
+pub depth-loaded : (s : Session) → s .loaded ≡ true → depthAsked s ≡ depth (cardOf s)
+unfolding depthAsked
+depth-loaded s e = rw e
+
+pub steps-loaded : (s : Session) → s .loaded ≡ true → stepsAsked s ≡ length (stepList (cardOf s))
+unfolding stepsAsked
+steps-loaded s e = rw e
 
 -- The empty session holds no card, and load keeps what sessions keep
 

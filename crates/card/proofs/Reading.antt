@@ -6,7 +6,7 @@ use Prim.Native.Nat.{ℕ, _+_, _-_, _≤_, _<_}
 use native.Mathlib.Decide.{decLt}
 use native.Mathlib.Omega.{arith}
 use lib.Dec.{eqb, ltb}
-use lib.ListN.{length, getD, replicate, List·getD-eq-default}
+use lib.ListN.{length, getD, List·getD-eq-default}
 use borrow.Author.Tests.{eq-eqb, ne-eqb}
 use Rattle.word.specs.Times.{count}
 use Rattle.word.proofs.Sets.{count-cong}
@@ -22,7 +22,8 @@ use Rattle.wiring.specs.declared.Verdict.the-variants.{Refused as Faulty, Passe
 use Rattle.wiring.specs.declared.Wired.{Wired}
 use Rattle.wiring.specs.Layout.{Fits, kindOf, kindsOf, typesOf, countsOf, placesOf}
 use Rattle.wiring.specs.Wires.{Wires}
-use Rattle.wiring.specs.Wired.{pinsFit, mostBack, setWords, passed, refused as faulty, wiredOf}
+use Rattle.wiring.specs.Wired.{pinsFit, mostBack, setWords, passed, refused as faulty, wiredOf, arraysWired}
+use Rattle.wiring.proofs.Judged.{judged as wired-judged}
 use Rattle.wiring.proofs.Layouts.{wires-laid, kind-at, kind-past}
 use Rattle.wiring.proofs.CardSets.{count-ends}
 use Rattle.records.specs.declared.Outcome.the-variants.{Refused, Read}
@@ -31,9 +32,9 @@ use Rattle.records.specs.Written.{Bytes}
 use Rattle.records.specs.Scan.{Meaning, Stops, Means, meaning, parsedOf}
 use Rattle.records.proofs.Fitted.{read-fits}
 use Rattle.card.specs.declared.Session.{Session}
-use Rattle.card.specs.declared.Loaded.{Loaded}
 use Rattle.card.specs.Session.{isInput, inputsOf, sessionOf}
 use Rattle.card.specs.Load.{refusal, concluded, judged, loadMeant, loadOf}
+use Rattle.card.specs.Arrays.{arraysSession, arraysConcluded, arraysJudged}
 
 -- What reading came to
 
@@ -83,15 +84,6 @@ inputs-all-counted c fit =
     ∙ ap (count (λ n. isInput (netAt c n))) (sym x)
     ∙ count-ends (λ n. isInput (netAt c n)) (length c) (256 - length c) (past-input c)
 
-module _ (old : Session) (c : List Net) where
-  pub judged-none : inputsOf c ≡ 0 → refusal old NoInput ≡ judged old c
-  unfolding judged
-  judged-none e = rw (eq-eqb (inputsOf c) 0 e)
-
-  pub judged-some : ¬ (inputsOf c ≡ 0) → concluded old c (length c) (wiredOf c .verdict) ≡ judged old c
-  unfolding judged
-  judged-some h = rw (ne-eqb (inputsOf c) 0 h)
-
 -- a wiring that passes has the order and the sets
 pub wired-passed : (c : List Net) → wiredOf c .verdict ≡ Passed
     → wiredOf c ≡ passed (gateOrder c) (setWords c)
@@ -129,51 +121,53 @@ pub record Laid (c : List Net) (n : ℕ) (kinds types counts places : List ℕ) 
   pub counts-laid : counts ≡ countsOf c
   pub places-laid : places ≡ placesOf c
 
-module _ {c : List Net} {n : ℕ} {kinds types counts places : List ℕ} (laid : Laid c n kinds types counts places) (inputs : ℕ) (old : Session) where
-  -- 9, and what follows where there is an input
-  module _ (counted : inputs ≡ count (λ g. eqb (getD kinds g 0) 1) n) where
-    inputs-of : inputs ≡ inputsOf c
-    inputs-of =
-        counted ∙ ap (λ ks. count (λ g. eqb (getD ks g 0) 1) n) (laid .kinds-laid) ∙ ap (count (λ g. eqb (getD (kindsOf c) g 0) 1)) (sym (laid .size))
-        ∙ inputs-counted c (laid .fits)
+-- What the judgement's functions find of any arrays
 
-    pub judge-none : inputs ≡ 0 → refusal old NoInput ≡ judged old c
-    judge-none e = judged-none old c (sym inputs-of ∙ e)
+module _ (old : Session) (n : ℕ) (kinds types counts places : List ℕ) where
+  module _ (handed inputs : ℕ) (w : Wired) (wired : w ≡ arraysWired counts places n) where
+    abbrev fresh : Wired → Session
+    fresh = arraysSession n inputs kinds types counts places
 
-    pub judge-some : (r : Loaded) → (inputs ≡ inputsOf c → r ≡ concluded old c n (wiredOf c .verdict)) → (inputs ≡ 0 → ⊥) → r ≡ judged old c
-    judge-some r e some = e inputs-of ∙ ap (λ k. concluded old c k (wiredOf c .verdict)) (sym (laid .size)) ∙ judged-some old c (λ z. some (inputs-of ∙ z))
+    pub conclude-faulty : (r : Refusal) → w .verdict ≡ Faulty r → refusal old r ≡ arraysConcluded old handed inputs n kinds types counts places
+    unfolding arraysConcluded
+    conclude-faulty r e = ap (concluded old (fresh (arraysWired counts places n)) handed) (sym e ∙ ap (λ x. x .verdict) wired)
 
-  -- the wiring's verdict
-  module _ (counted : inputs ≡ inputsOf c) (k : ℕ) (w : Wired) (wired : w ≡ wiredOf c) where
-    by-verdict : (v : Verdict) → w .verdict ≡ v → concluded old c k v ≡ concluded old c k (wiredOf c .verdict)
-    by-verdict v e = ap (concluded old c k) (sym e ∙ ap (λ x. x .verdict) wired)
-
-    pub conclude-faulty : (r : Refusal) → w .verdict ≡ Faulty r → refusal old r ≡ concluded old c k (wiredOf c .verdict)
-    conclude-faulty r e = by-verdict (Faulty r) e
-
-    pub conclude-passed : w .verdict ≡ Passed
-        → _≡_ {A = Loaded} (record {
-          answer = Done k;
-          session = record {
-            loaded = true;
-            rested = false;
-            nets = n;
-            inputs = inputs;
-            gates = w .gates;
-            kinds = kinds;
-            types = types;
-            counts = counts;
-            places = places;
-            order = w .order;
-            sets = w .sets;
-            before = replicate 256 false;
-            words = replicate 256 0;
-          };
-        }) (concluded old c k (wiredOf c .verdict))
-    unfolding sessionOf
+    pub conclude-passed : w .verdict ≡ Passed → record { answer = Done handed; session = fresh w } ≡ arraysConcluded old handed inputs n kinds types counts places
+    unfolding arraysConcluded
     conclude-passed e =
-        let p : w ≡ passed (gateOrder c) (setWords c) = wired ∙ wired-passed c (ap (λ x. x .verdict) (sym wired) ∙ e) in
-        rw (ap (λ x. x .gates) p, ap (λ x. x .order) p, ap (λ x. x .sets) p, laid .kinds-laid, laid .types-laid, laid .counts-laid, laid .places-laid, counted, ← laid .size) (by-verdict Passed e)
+        ap (λ x. concluded old (fresh x) handed Passed) wired ∙ ap (concluded old (fresh (arraysWired counts places n)) handed) (sym e ∙ ap (λ x. x .verdict) wired)
+
+  module _ (inputs : ℕ) (counted : inputs ≡ count (λ g. eqb (getD kinds g 0) 1) n) where
+    pub judge-none : inputs ≡ 0 → refusal old NoInput ≡ arraysJudged old n kinds types counts places
+    unfolding arraysJudged
+    judge-none e = rw (eq-eqb (count (λ g. eqb (getD kinds g 0) 1) n) 0 (sym counted ∙ e))
+
+    pub judge-some : (inputs ≡ 0 → ⊥) → arraysConcluded old n inputs n kinds types counts places ≡ arraysJudged old n kinds types counts places
+    unfolding arraysJudged
+    judge-some some =
+        rw (ne-eqb (count (λ g. eqb (getD kinds g 0) 1) n) 0 (λ z. some (counted ∙ z))) (ap (λ k. arraysConcluded old n k n kinds types counts places) counted)
+
+-- where a card is laid out in them it is the judgement of the card
+
+module _ (old : Session) (c : List Net) where
+  fresh-card : wiredOf c .verdict ≡ Passed → arraysSession (length c) (inputsOf c) (kindsOf c) (typesOf c) (countsOf c) (placesOf c) (wiredOf c) ≡ sessionOf c
+  unfolding sessionOf
+  fresh-card e = ap (arraysSession (length c) (inputsOf c) (kindsOf c) (typesOf c) (countsOf c) (placesOf c)) (wired-passed c e)
+
+  concluded-card : (handed : ℕ) (v : Verdict) → wiredOf c .verdict ≡ v
+      → concluded old (arraysSession (length c) (inputsOf c) (kindsOf c) (typesOf c) (countsOf c) (placesOf c) (wiredOf c)) handed v ≡ concluded old (sessionOf c) handed v
+  concluded-card handed (Faulty r) e = refl
+  concluded-card handed Passed e = ap (λ x. concluded old x handed Passed) (fresh-card e)
+
+  judged-card : Fits c → Pinned c → arraysJudged old (length c) (kindsOf c) (typesOf c) (countsOf c) (placesOf c) ≡ judged old c
+  unfolding arraysJudged arraysConcluded judged
+  judged-card fits pinned =
+      rw (inputs-counted c fits, wired-judged c fits pinned) (ap (cond (eqb (inputsOf c) 0) (refusal old NoInput)) (concluded-card (length c) (wiredOf c .verdict) refl))
+
+pub judge-laid : (old : Session) {c : List Net} {n : ℕ} {kinds types counts places : List ℕ} → Laid c n kinds types counts places
+    → arraysJudged old n kinds types counts places ≡ judged old c
+judge-laid old {c} laid =
+    rw (laid .kinds-laid, laid .types-laid, laid .counts-laid, laid .places-laid, ← laid .size) (judged-card old c (laid .fits) (laid .pinned))
 
 -- Load, from what reading came to
 
@@ -189,7 +183,7 @@ module _ (old : Session) (s : List ℕ) (p : Parsed) (parsed : p ≡ parsedOf (m
     arrays : p ≡ parsedOf (Means (found .nets))
     arrays = parsed ∙ ap parsedOf (found .means)
 
-    pub load-laid : Laid (found .nets) n (p .kinds) (p .types) (p .counts) (p .places)
+    load-laid : Laid (found .nets) n (p .kinds) (p .types) (p .counts) (p .places)
     load-laid =
         let f = read-fits s bytes (found .nets) (found .means) in
         record {
@@ -208,6 +202,6 @@ module _ (old : Session) (s : List ℕ) (p : Parsed) (parsed : p ≡ parsedOf (m
         subst (λ x. Wires x (p .places) n) (sym (l .counts-laid))
         (subst (λ y. Wires (countsOf (found .nets)) y n) (sym (l .places-laid)) (subst (Wires (countsOf (found .nets)) (placesOf (found .nets))) (l .size) (wires-laid (found .nets) (l .fits))))
 
-    pub load-judged : judged old (found .nets) ≡ loadOf old s
+    pub load-judged : arraysJudged old n (p .kinds) (p .types) (p .counts) (p .places) ≡ loadOf old s
     unfolding loadOf
-    load-judged = sym (ap (loadMeant old) (found .means))
+    load-judged = judge-laid old load-laid ∙ sym (ap (loadMeant old) (found .means))

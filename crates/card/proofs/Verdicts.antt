@@ -22,7 +22,7 @@ use Rattle.records.proofs.Cards.{read-back, written, why, stops}
 use Rattle.records.proofs.Fitted.{read-fits}
 use Rattle.card.specs.declared.Session.{Session}
 use Rattle.card.specs.declared.Loaded.{Loaded}
-use Rattle.card.specs.Session.{inputsOf}
+use Rattle.card.specs.Session.{inputsOf, sessionOf}
 use Rattle.card.specs.Load.{refusal, taken, concluded, judged, loadMeant, loadOf}
 use Rattle.card.specs.Allowed.{Fed, Deep, Long, Accepted, Allowed, Writes, Gets, gets-stopped, gets-9, gets-4, gets-5, gets-6, gets-7}
 use Rattle.card.specs.Held.{HasCard, Carded}
@@ -45,13 +45,13 @@ module _ (old : Session) (c : List Net) where
       (go (passed (gateOrder c) (setWords c)) refl (pinsFit c) (ltb (length c) (mostBack c)) (ltb 63 (depth c)) (ltb 4096 (length (stepList c))))
     where
       go : (w : Wired) → w .verdict ≡ Passed → (a b d e : Bool)
-          → concluded old c (length c) ((cond a (cond b (faulty LoopedCard) (cond d (faulty TooDeep) (cond e (faulty TooManySteps) w))) (faulty NoSuchPin)) .verdict)
+          → concluded old (sessionOf c) (length c) ((cond a (cond b (faulty LoopedCard) (cond d (faulty TooDeep) (cond e (faulty TooManySteps) w))) (faulty NoSuchPin)) .verdict)
           ≡ cond a (cond b (refusal old LoopedCard) (cond d (refusal old TooDeep) (cond e (refusal old TooManySteps) (taken c)))) (refusal old NoSuchPin)
       go w h false b d e = refl
       go w h true true d e = refl
       go w h true false true e = refl
       go w h true false false true = refl
-      go w h true false false false = ap (concluded old c (length c)) h
+      go w h true false false false = ap (concluded old (sessionOf c) (length c)) h
 
   module _ (pinned : Pinned c) where
     pub judged-9 : ¬ Fed c → judged old c ≡ refusal old NoInput

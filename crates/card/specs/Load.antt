@@ -24,14 +24,14 @@ refusal old why = record { answer = Refused why; session = old }
 abbrev pub taken : List Net → Loaded
 taken c = record { answer = Done (length c); session = sessionOf c }
 
--- a card whose wiring passes replaces the old one, and a count is handed back
-abbrev pub concluded : Session → List Net → ℕ → Verdict → Loaded
-concluded old c count (Faulty why) = refusal old why
-concluded old c count Passed = record { answer = Done count; session = sessionOf c }
+-- a card whose wiring passes replaces the old one by a fresh session, and a count is handed back
+abbrev pub concluded : Session → Session → ℕ → Verdict → Loaded
+concluded old fresh count (Faulty why) = refusal old why
+concluded old fresh count Passed = record { answer = Done count; session = fresh }
 
 -- "After the end record: 8, 9, 4, 5, 6, 7." "Load gives the number of nets"
 unfoldable pub judged : Session → List Net → Loaded
-judged old c = cond (eqb (inputsOf c) 0) (refusal old NoInput) (concluded old c (length c) (wiredOf c .verdict))
+judged old c = cond (eqb (inputsOf c) 0) (refusal old NoInput) (concluded old (sessionOf c) (length c) (wiredOf c .verdict))
 
 abbrev pub loadMeant : Session → Meaning → Loaded
 loadMeant old (Stops why) = refusal old why

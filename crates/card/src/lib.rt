@@ -1,22 +1,16 @@
 // The session, and load: from any bytes at all to a card or a number.
 ghost use mathlib.Core.Path.{_≡_};
-ghost use mathlib.Core.Bool.{true};
-ghost use mathlib.Core.List.{List};
-ghost use Prim.Native.Nat.{_<_, _≤_};
+ghost use Prim.Native.Nat.{_≤_};
 ghost use lib.Dec.{eqb};
-ghost use lib.ListN.{length, getD};
+ghost use lib.ListN.{getD};
 ghost use Rattle.word.specs.Word.{val};
 ghost use Rattle.word.specs.Times.{count};
-ghost use Rattle.rule.specs.Net.{Net, Pinned};
-ghost use Rattle.rule.specs.Level.{depth as depthOf};
-ghost use Rattle.rule.specs.Steps.{stepList};
-ghost use Rattle.wiring.specs.Layout.{Fits, kindsOf, typesOf, countsOf, placesOf};
 ghost use Rattle.wiring.specs.Wires.{Wires};
-ghost use Rattle.wiring.specs.Wired.{wiredOf};
-ghost use Rattle.card.specs.Session.{none, inputsOf, cardOf};
-ghost use Rattle.card.specs.Load.{refusal, concluded, loadOf, judged};
-ghost use Rattle.card.specs.Held.{HasCard, Carded};
-ghost use Rattle.card.specs.Asked.{netAsked};
+ghost use Rattle.card.specs.Session.{none};
+ghost use Rattle.card.specs.Load.{refusal, loadOf};
+ghost use Rattle.card.specs.Arrays.{arraysConcluded, arraysJudged};
+ghost use Rattle.card.specs.Held.{Carded};
+ghost use Rattle.card.specs.Asked.{netAsked, depthAsked, stepsAsked};
 use records::Outcome;
 use rule::Answer;
 use rule::NetAnswer;
@@ -114,7 +108,7 @@ fn conclude<'a>(
     places: &'a [u16; 2048],
 ) -> Loaded
     requires { ⌜ Wires (now counts) (now places) n ⌝ }
-    ensures { λ r. ⌜ ((c : List Net) → Fits c → Pinned c → length c ≡ n → inputs ≡ inputsOf c → now (kinds .entry) ≡ kindsOf c → now (types .entry) ≡ typesOf c → now (counts .entry) ≡ countsOf c → now (places .entry) ≡ placesOf c → r ≡ concluded old c count (wiredOf c .verdict)) ⌝ }
+    ensures { λ r. ⌜ r ≡ arraysConcluded old count inputs n (now (kinds .entry)) (now (types .entry)) (now (counts .entry)) (now (places .entry)) ⌝ }
 {
     let w = wiring::wire(counts, places, n);
     let verdict = w.verdict;
@@ -155,7 +149,7 @@ fn judge<'a>(
     places: &'a [u16; 2048],
 ) -> Loaded
     requires { ⌜ Wires (now counts) (now places) n ⌝ }
-    ensures { λ r. ⌜ ((c : List Net) → Fits c → Pinned c → length c ≡ n → now (kinds .entry) ≡ kindsOf c → now (types .entry) ≡ typesOf c → now (counts .entry) ≡ countsOf c → now (places .entry) ≡ placesOf c → r ≡ judged old c) ⌝ }
+    ensures { λ r. ⌜ r ≡ arraysJudged old n (now (kinds .entry)) (now (types .entry)) (now (counts .entry)) (now (places .entry)) ⌝ }
 {
     let inputs = inputs_below(kinds, n);
     if inputs == 0 {
@@ -193,19 +187,25 @@ pub fn ask_net(s: Session, n: u64) -> NetAnswer
     NetAnswer::Net(levels[at], s.sets[at])
 }
 
-// The depth of a session's card.
+// The depth of a session's card; 0 where nothing is loaded.
 pub fn depth_of(s: Session) -> usize
-    requires { ⌜ HasCard s ⌝ }
-    ensures { λ r. ⌜ r ≡ depthOf (cardOf s) ⌝ }
+    requires { ⌜ Carded s ⌝ }
+    ensures { λ r. ⌜ r ≡ depthAsked s ⌝ }
 {
+    if !s.loaded {
+        return 0;
+    }
     let levels = wiring::gates_back(&s.counts, &s.places, s.nets);
     wiring::highest_of(&levels, s.nets) as usize
 }
 
-// The length of its step list.
+// The length of its step list; 0 where nothing is loaded.
 pub fn steps_of(s: Session) -> usize
-    requires { ⌜ HasCard s ⌝ }
-    ensures { λ r. ⌜ r ≡ length (stepList (cardOf s)) ⌝ }
+    requires { ⌜ Carded s ⌝ }
+    ensures { λ r. ⌜ r ≡ stepsAsked s ⌝ }
 {
+    if !s.loaded {
+        return 0;
+    }
     wiring::steps_of(&s.sets, &s.order, s.gates)
 }

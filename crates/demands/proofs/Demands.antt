@@ -5,49 +5,53 @@ use mathlib.Core.Bool.{Bool, true, false}
 use mathlib.Core.List.{List, [], _∷_, _++_, map}
 use Prim.Native.Nat.{ℕ, _<_, _≤_}
 use native.Mathlib.Omega.{arith}
+use lib.Dec.{lit<}
 use lib.ListN.{length, getD, take}
 use Rattle.lists.specs.Entries.{_∈_, Number}
 use Rattle.word.specs.Word.{bit, val}
 use Rattle.rule.specs.Net.{Net}
 use Rattle.rule.specs.Rule.{value, Rest}
 use Rattle.rule.specs.Steps.{Joined, GoodOrder, stepList, stepAt}
-use Rattle.rule.specs.Numbers.{numberOf, answerNumber, answerCount}
+use Rattle.rule.specs.Numbers.{numberOf, answerNumber}
 use Rattle.rule.specs.declared.Refusal.{Refusal}
 use Rattle.rule.specs.declared.Refusal.the-variants.{OrderLength, OrderEntry, OrderEarly}
 use Rattle.rule.specs.declared.Answer.the-variants.{Done, Refused}
-use Rattle.rule.specs.Flag.{flagOf}
 use Rattle.rule.proofs.StepLists.{list-number}
 use Rattle.wiring.specs.declared.Verdict.{Verdict}
 use Rattle.inputs.specs.Inputs.{given}
 use Rattle.inputs.specs.Allowed.{Vector, gets-12, gets-10, gets-11}
 use Rattle.records.specs.Written.{Bytes}
 use Rattle.card.specs.declared.Session.{Session}
-use Rattle.card.specs.Session.{none, cardOf}
+use Rattle.card.specs.Session.{none, inputsOf, sessionOf, cardOf}
 use Rattle.card.specs.Load.{refusal, loadOf, taken}
 use Rattle.card.specs.Allowed.{Allowed, Gets}
 use Rattle.card.specs.Held.{HasCard}
-use Rattle.card.proofs.Kept.{nets-are, card-fits}
+use Rattle.card.proofs.Kept.{session-card, session-holds, loaded-is, nets-are, inputs-are, card-fits}
 use Rattle.card.proofs.Verdicts.{load-takes, load-taken, load-refuses, load-refused}
 use Rattle.session.specs.Good.{Good}
 use Rattle.session.specs.Moves.{givenTo, ends, restOf, vectorOf}
 use Rattle.session.specs.Sequence.{after, stateAfter}
-use Rattle.session.proofs.Kept.{none-good, load-good, rest-good, vector-good}
+use Rattle.session.proofs.Kept.{none-good, load-good, taken-good, rest-good}
 use Rattle.session.proofs.Held.{given-card}
-use Rattle.session.proofs.Refusals.{vector-fits, vector-takes}
+use Rattle.session.proofs.Refusals.{vector-fits, rest-takes, vector-takes}
 use Rattle.session.proofs.Rules.{rest-settles, rest-flat, vector-rule}
-use Rattle.session.proofs.Sequences.{Stands, sequence-rule, sequence-stands}
-use Rattle.history.specs.Told.{historyOf}
-use Rattle.history.proofs.Flags.{flag-cong}
-use Rattle.history.proofs.Histories.{Roomy, history-0, history-count, history-shows}
+use Rattle.session.proofs.Sequences.{Stands, rest-stands, after-stands, sequence-rule, sequence-stands}
+use Rattle.history.specs.Told.{Roomy, historyOf}
+use Rattle.history.proofs.Flags.{flag-cong, flat-flag}
+use Rattle.history.proofs.Histories.{history-0, history-count, history-shows}
 use Rattle.orders.specs.Orders.{stepsOf, orderJudged}
 use Rattle.orders.proofs.Judging.{Fit, good-fit, Judgement, judgement, gets-15 as judged-15, gets-16 as judged-16, gets-17 as judged-17, taken as judged-taken}
 use Rattle.steps.specs.Vector.{ranAlong, stepsVectorOf}
 use Rattle.steps.specs.AnyOrder.{AnyOrder}
-use Rattle.steps.proofs.Engines.{run-any-order, steps-number, engines-equal}
+use Rattle.steps.proofs.Engines.{run-any-order, steps-number}
+use Rattle.moves.specs.declared.Engine.the-variants.{Fields, Steps}
+use Rattle.moves.specs.Operated.{vectorBy}
+use Rattle.moves.proofs.Engines.{same-session, by-good, by-takes}
 use Rattle.bench.specs.Bench.{Benched, notDone, benchOf}
 use Rattle.bench.specs.Allowed.{stepCount, Doing, BenchGets, gets-vector, gets-15, gets-16, gets-17, gets-19, gets-18}
 use Rattle.bench.proofs.Benches.{bench-refuses, bench-refused, bench-answers, bench-proper, bench-others, bench-whole, bench-stays, bench-good}
-use Rattle.demands.specs.Operations.{Engine, fields, steps, vectorBy, Operation, load, rest, vector, history, list, records, ask, trace, bench, lentTo, outcome, Same, Turn, afterBy}
+use Rattle.demands.specs.Operations.{Operation, load, rest, vector, history, list, records, ask, trace, bench, lentTo, outcome, Same, Turn, afterBy}
+use Rattle.demands.specs.Histories.{HandsOut}
 use Rattle.demands.proofs.Refusing.{keeps}
 
 -- Demand 1. "Give the program a card or a vector of any kind, damaged ones too: it ends with a result or a numbered refusal. Nothing has to be checked
@@ -68,20 +72,13 @@ Given (trace n t room) = Unit {0}
 Given (bench v order k room) = Unit {0}
 
 -- the session predicate is met by the empty session and kept by every operation
-engine-same : (e : Engine) (s : Session) → Good s → (v : List ℕ) → vectorBy e s v .session ≡ vectorOf s v .session
-engine-same fields s g v = refl
-engine-same steps s g v = engines-equal s g v
-
-engine-good : (e : Engine) (s : Session) → Good s → (v : List ℕ) → Good (vectorBy e s v .session)
-engine-good e s g v = subst Good (sym (engine-same e s g v)) (vector-good s g v)
-
 pub demand-1-starts : Good none
 demand-1-starts = none-good
 
 pub demand-1-keeps : (s : Session) (o : Operation) → Good s → Given o → Good (outcome s o .session)
 demand-1-keeps s (load b) g h = load-good s b g h
 demand-1-keeps s (rest v) g h = rest-good s g v
-demand-1-keeps s (vector e v) g h = engine-good e s g v
+demand-1-keeps s (vector e v) g h = by-good e s g v
 demand-1-keeps s (history ws bs fs) g h = g
 demand-1-keeps s (list ns ts) g h = g
 demand-1-keeps s (records room) g h = g
@@ -105,8 +102,8 @@ demand-2-accepts old b h = record {
 }
 
 -- "both engines, the step list and the bit-fields": they leave the same session, whatever the vector
-pub demand-2-engines : (s : Session) → Good s → (v : List ℕ) → vectorBy steps s v .session ≡ vectorBy fields s v .session
-demand-2-engines s g v = engines-equal s g v
+pub demand-2-engines : (s : Session) → Good s → (v : List ℕ) → vectorBy Steps s v .session ≡ vectorBy Fields s v .session
+demand-2-engines s g v = same-session Steps s g v
 
 -- "a rest vector comes first. It puts every net at its settled value: each gate equals its function of its own pins. After a rest the history is flat and equals the before values."
 pub demand-2-rest : (s : Session) → Good s → s .loaded ≡ true → (u : List ℕ) → Vector (s .inputs) u
@@ -127,11 +124,14 @@ mixed : (ts : List Turn) (s : Session) → Good s → afterBy s ts ≡ after s (
 unfolding afterBy after
 mixed [] s g = refl
 mixed (t ∷ ts) s g =
-    mixed ts (vectorBy (t .engine) s (t .given) .session) (engine-good (t .engine) s g (t .given)) ∙ ap (λ x. after x (vectors ts)) (engine-same (t .engine) s g (t .given))
+    mixed ts (vectorBy (t .engine) s (t .given) .session) (by-good (t .engine) s g (t .given)) ∙ ap (λ x. after x (vectors ts)) (same-session (t .engine) s g (t .given))
 
 vectors-more : (ts : List Turn) (t : Turn) → vectors (ts ++ (t ∷ [])) ≡ vectors ts ++ (t .given ∷ [])
 vectors-more [] t = refl
 vectors-more (x ∷ ts) t = ap (λ l. x .given ∷ l) (vectors-more ts t)
+
+mixed-more : (ts : List Turn) (t : Turn) (s : Session) → Good s → afterBy s (ts ++ (t ∷ [])) ≡ after s (vectors ts ++ (t .given ∷ []))
+mixed-more ts t s g = mixed (ts ++ (t ∷ [])) s g ∙ ap (after s) (vectors-more ts t)
 
 -- "For each accepted card and each vector in turn, both engines give every net the value at every time that the unit-delay rule gives it, from a settled
 -- rest vector": after a rest and any vectors, each by either engine, the words are the rule's for the last vector, from the state that the earlier ones left
@@ -142,35 +142,110 @@ pub demand-2-values : (s : Session) → Good s → s .loaded ≡ true → (u : L
     let before = stateAfter (cardOf s) start (vectors ts) in
     ((time : ℕ) → time < 64 → bit (getD (left .words) n 0) time ≡ value (cardOf s) before (givenTo (cardOf s) (t .given)) n time) × (getD (left .before) n false ≡ before n)
 demand-2-values s g l u fits start r ts all t last n b =
-    let same = mixed (ts ++ (t ∷ [])) (restOf s u .session) (rest-good s g u) ∙ ap (after (restOf s u .session)) (vectors-more ts t) in
+    let same = mixed-more ts t (restOf s u .session) (rest-good s g u) in
     let rule = sequence-rule s g l u fits start r (vectors ts) all (t .given) last n b in
     (λ time q. ap (λ x. bit (getD (x .words) n 0) time) same ∙ rule .0 time q, ap (λ x. getD (x .before) n false) same ∙ rule .1)
 
--- and what a history hands out then is the rule's: "word, before value (the one from ahead of that word's time 0), flag"
-pub demand-2-history : (s : Session) → Good s → s .loaded ≡ true → (u : List ℕ) → Vector (s .inputs) u → (start : ℕ → Bool) → Rest (cardOf s) (givenTo (cardOf s) u) start
-    → (ts : List Turn) → ((v : List ℕ) → v ∈ vectors ts → Vector (s .inputs) v) → (t : Turn) → Vector (s .inputs) (t .given)
-    → (words befores flags : List ℕ) → s .nets ≤ length words → s .nets ≤ length befores → s .nets ≤ length flags
-    → let shown = historyOf (afterBy (restOf s u .session) (ts ++ (t ∷ []))) words befores flags in
-    let before = stateAfter (cardOf s) start (vectors ts) in
-    let ruled = value (cardOf s) before (givenTo (cardOf s) (t .given)) in
-    (answerNumber (shown .answer) ≡ 0) × (answerCount (shown .answer) ≡ s .nets)
-    × ((n : ℕ) → n < s .nets
-    → ((time : ℕ) → time < 64 → bit (getD (shown .words) n 0) time ≡ ruled n time) × (getD (shown .befores) n 0 ≡ val (before n)) × (getD (shown .flags) n 0 ≡ flagOf (before n) (ruled n)))
-demand-2-history s g l u fits start r ts all t last words befores flags lw lb lf =
-    let left = afterBy (restOf s u .session) (ts ++ (t ∷ [])) in
-    let same : left ≡ after (restOf s u .session) (vectors ts ++ (t .given ∷ [])) =
-    mixed (ts ++ (t ∷ [])) (restOf s u .session) (rest-good s g u) ∙ ap (after (restOf s u .session)) (vectors-more ts t) in
-    let stands = subst (Stands (cardOf s) (s .inputs) _) (sym same) (sequence-stands s g l u fits start r (vectors ts) all (t .given) last) in
-    let nets : left .nets ≡ s .nets = nets-are left (stands .good .card (stands .good .rest (stands .rested) .0)) ∙ ap length (stands .same-card) ∙ sym (nets-are s (g .card l)) in
-    let roomy : Roomy left words befores flags = record { for-words = omega (arith, nets, lw); for-befores = omega (arith, nets, lb); for-flags = omega (arith, nets, lf) } in
-    let ok = history-0 left words befores flags .1 (stands .rested, roomy) in (
-      ok,
-      history-count left words befores flags ok ∙ nets,
-      λ n b.
-          let shows = history-shows left (stands .good) (stands .rested) words befores flags ok n (omega (arith, nets, b)) in
-          let rule = demand-2-values s g l u fits start r ts all t last n b in
-          (λ time q. ap (λ w. bit w time) (shows .0) ∙ rule .0 time q, shows .1 ∙ ap val (rule .1), shows .2 ∙ flag-cong _ _ _ _ (rule .1) (rule .0)),
-    )
+-- What a history hands out then: "word, before value (the one from ahead of that word's time 0), flag"
+
+shown : {c : List Net} {inputs : ℕ} {state : ℕ → Bool} (s : Session) → Stands c inputs state s → (before : ℕ → Bool) (values : ℕ → ℕ → Bool)
+    → ((n : ℕ) → n < length c → ((t : ℕ) → t < 64 → bit (getD (s .words) n 0) t ≡ values n t) × (getD (s .before) n false ≡ before n))
+    → (words befores flags : List ℕ) → Roomy (length c) words befores flags → HandsOut c before values (historyOf s words befores flags)
+shown {c} s at before values is words befores flags room =
+    let nets : s .nets ≡ length c = nets-are s (at .good .card (at .good .rest (at .rested) .0)) ∙ ap length (at .same-card) in
+    let ok = history-0 s words befores flags .1 (at .rested, subst (λ k. Roomy k words befores flags) (sym nets) room) in
+    let net : (n : ℕ) → n < length c → n < s .nets = λ n l. omega (arith, nets) in
+    let shows = history-shows s (at .good) (at .rested) words befores flags ok in
+    record {
+      number = ok;
+      count = history-count s words befores flags ok ∙ nets;
+      words = λ n t l b. ap (λ w. bit w t) (shows n (net n l) .0) ∙ is n l .0 t b;
+      befores = λ n l. shows n (net n l) .1 ∙ ap val (is n l .1);
+      flags = λ n l. shows n (net n l) .2 ∙ flag-cong _ _ _ _ (is n l .1) (is n l .0);
+    }
+
+ended : (s : Session) (n : ℕ) → bit (getD (s .words) n 0) 63 ≡ ends s n
+unfolding ends
+ended s n = refl
+
+module _ (s : Session) (g : Good s) (l : s .loaded ≡ true) (u : List ℕ) (fits : Vector (s .inputs) u) (start : ℕ → Bool) (r : Rest (cardOf s) (givenTo (cardOf s) u) start) where
+  -- after the rest alone all is flat, and no flag is raised
+  pub demand-2-flat : (words befores flags : List ℕ) → Roomy (length (cardOf s)) words befores flags
+      → let told = historyOf (restOf s u .session) words befores flags in
+      HandsOut (cardOf s) start (λ n t. start n) told × ((n : ℕ) → n < length (cardOf s) → getD (told .flags) n 0 ≡ 0)
+  demand-2-flat words befores flags room = (out, λ n b. out .flags n b ∙ flat-flag (start n))
+    where
+      left : Session
+      left = restOf s u .session
+
+      stands : Stands (cardOf s) (s .inputs) start left
+      stands = rest-stands s g l u fits start r
+
+      flat : (n t : ℕ) → n < length (cardOf s) → t < 64 → bit (getD (left .words) n 0) t ≡ getD (left .before) n false
+      flat n t b q = rest-flat s g l u fits n t (omega (arith, card-fits s (g .card l) .fits .few)) q
+
+      settled : (n : ℕ) → n < length (cardOf s) → getD (left .before) n false ≡ start n
+      settled n b = sym (flat n 63 b (lit< tt)) ∙ ended left n ∙ stands .ends-are n b
+
+      out : HandsOut (cardOf s) start (λ n t. start n) (historyOf left words befores flags)
+      out = shown left stands start (λ n t. start n) (λ n b. (λ t q. flat n t b q ∙ settled n b, settled n b)) words befores flags room
+
+  -- after vectors, each by either engine, it is the rule's for the last one, from the state that the earlier ones left of the rest
+  pub demand-2-history : (ts : List Turn) → ((v : List ℕ) → v ∈ vectors ts → Vector (s .inputs) v) → (t : Turn) → Vector (s .inputs) (t .given)
+      → (words befores flags : List ℕ) → Roomy (length (cardOf s)) words befores flags
+      → let before = stateAfter (cardOf s) start (vectors ts) in
+      HandsOut (cardOf s) before (value (cardOf s) before (givenTo (cardOf s) (t .given))) (historyOf (afterBy (restOf s u .session) (ts ++ (t ∷ []))) words befores flags)
+  demand-2-history ts all t last words befores flags room =
+      let same = mixed-more ts t (restOf s u .session) (rest-good s g u) in
+      let stands = subst (Stands (cardOf s) (s .inputs) _) (sym same) (sequence-stands s g l u fits start r (vectors ts) all (t .given) last) in
+      let nets = nets-are s (g .card l) in
+      shown _ stands _ _ (λ n b. demand-2-values s g l u fits start r ts all t last n (omega (arith, nets, b))) words befores flags room
+
+  -- and each of them is answered 0
+  pub demand-2-taken : (ts : List Turn) → ((v : List ℕ) → v ∈ vectors ts → Vector (s .inputs) v) → (t : Turn) → Vector (s .inputs) (t .given)
+      → answerNumber (vectorBy (t .engine) (afterBy (restOf s u .session) ts) (t .given) .answer) ≡ 0
+  demand-2-taken ts all t last =
+      let left = afterBy (restOf s u .session) ts in
+      let stands = subst (Stands (cardOf s) (s .inputs) _) (sym (mixed ts (restOf s u .session) (rest-good s g u))) (after-stands (rest-stands s g l u fits start r) (vectors ts) all) in
+      ap (λ m. answerNumber (m .answer)) (by-takes (t .engine) left (stands .good) (stands .rested) (t .given) (subst (λ k. Vector k (t .given)) (sym (stands .same-inputs)) last))
+
+-- Demand 2 in one, from the bytes to the values. A session that holds a card, whatever the rest and the vectors, each by either engine: there is a settled state for the rest,
+-- all are answered 0, and a history hands out the rule's values, before values and flags. Of the session nothing is said but what an operation hands out
+pub record CardRuns (s : Session) (c : List Net) : Type 0 where
+  pub settles : (u : List ℕ) → Vector (inputsOf c) u → (start : ℕ → Bool) × Rest c (givenTo c u) start
+  pub rests : (u : List ℕ) → Vector (inputsOf c) u → restOf s u .answer ≡ Done 0
+  pub flat : (u : List ℕ) → Vector (inputsOf c) u → (start : ℕ → Bool) → Rest c (givenTo c u) start → (words befores flags : List ℕ) → Roomy (length c) words befores flags
+      → let told = historyOf (restOf s u .session) words befores flags in
+      HandsOut c start (λ n t. start n) told × ((n : ℕ) → n < length c → getD (told .flags) n 0 ≡ 0)
+  pub takes : (u : List ℕ) → Vector (inputsOf c) u → (ts : List Turn) → ((v : List ℕ) → v ∈ vectors ts → Vector (inputsOf c) v) → (t : Turn) → Vector (inputsOf c) (t .given)
+      → answerNumber (vectorBy (t .engine) (afterBy (restOf s u .session) ts) (t .given) .answer) ≡ 0
+  pub shows : (u : List ℕ) → Vector (inputsOf c) u → (start : ℕ → Bool) → Rest c (givenTo c u) start
+      → (ts : List Turn) → ((v : List ℕ) → v ∈ vectors ts → Vector (inputsOf c) v) → (t : Turn) → Vector (inputsOf c) (t .given)
+      → (words befores flags : List ℕ) → Roomy (length c) words befores flags
+      → let before = stateAfter c start (vectors ts) in
+      HandsOut c before (value c before (givenTo c (t .given))) (historyOf (afterBy (restOf s u .session) (ts ++ (t ∷ []))) words befores flags)
+
+card-runs : (s : Session) → Good s → s .loaded ≡ true → CardRuns s (cardOf s)
+card-runs s g l = record {
+  settles = λ u f. there u (here u f);
+  rests = λ u f. ap (λ m. m .answer) (rest-takes s u l (here u f));
+  flat = λ u f start r. demand-2-flat s g l u (here u f) start r;
+  takes = λ u f ts all t last. demand-2-taken s g l u (here u f) (there u (here u f) .0) (there u (here u f) .1) ts (λ v m. here v (all v m)) t (here (t .given) last);
+  shows = λ u f start r ts all t last. demand-2-history s g l u (here u f) start r ts (λ v m. here v (all v m)) t (here (t .given) last);
+}
+  where
+    here : (v : List ℕ) → Vector (inputsOf (cardOf s)) v → Vector (s .inputs) v
+    here v f = subst (λ k. Vector k v) (sym (inputs-are s (g .card l))) f
+
+    there : (u : List ℕ) → Vector (s .inputs) u → (start : ℕ → Bool) × Rest (cardOf s) (givenTo (cardOf s) u) start
+    there u f = (λ n. getD (restOf s u .session .before) n false, demand-2-rest s g l u f .0)
+
+-- "For each accepted card": bytes that document 01 allows are loaded over any session, the count is that of their card's nets, and the card runs
+pub demand-2-card : (old : Session) (b : List ℕ) → Bytes b → (a : Allowed b) → (loadOf old b .answer ≡ Done (length (a .card))) × CardRuns (loadOf old b .session) (a .card)
+demand-2-card old b h a =
+    let took = load-takes old b h a in
+    let runs = subst (CardRuns (sessionOf (a .card))) (session-card (a .card) (a .accepted)) (card-runs (sessionOf (a .card)) (taken-good (a .card) (a .accepted)) (loaded-is (sessionOf (a .card)) (session-holds (a .card) (a .accepted)))) in
+    (ap (λ x. x .answer) took, subst (λ x. CardRuns (x .session) (a .card)) (sym took) runs)
 
 -- Demand 3. "On any rested card, with any vector that isn't refused, in any order that has each step once and no step before one whose value it reads, each
 -- step gives its proper value when it is reached, and the whole run ends with the rule's history and state."

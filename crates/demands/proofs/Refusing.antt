@@ -18,7 +18,7 @@ use Rattle.wiring.specs.Wired.{wiredOf}
 use Rattle.inputs.specs.Inputs.{given, vectorFits}
 use Rattle.records.specs.Scan.{Meaning, Stops, Means, meaning}
 use Rattle.card.specs.declared.Session.{Session}
-use Rattle.card.specs.Session.{inputsOf, cardOf}
+use Rattle.card.specs.Session.{inputsOf, sessionOf, cardOf}
 use Rattle.card.specs.Load.{refusal, concluded, judged, loadMeant, loadOf}
 use Rattle.card.specs.Asked.{netAsked}
 use Rattle.session.specs.Moves.{refusedMove, moving, restOf, vectorOf}
@@ -30,7 +30,9 @@ use Rattle.steps.specs.Vector.{stepsVectorOf}
 use Rattle.step_records.specs.declared.StepRecord.{StepRecord}
 use Rattle.step_records.specs.Records.{Answered, recordsOf}
 use Rattle.bench.specs.Bench.{benchRefused, benchDone, benchOrder, benchVector, benchOf}
-use Rattle.demands.specs.Operations.{Engine, fields, steps, Operation, load, rest, vector, history, list, records, ask, trace, bench, Lent, slices, lentTo, Outcome, answered, told, outcome, Same}
+use Rattle.moves.specs.declared.Engine.{Engine}
+use Rattle.moves.specs.declared.Engine.the-variants.{Fields, Steps}
+use Rattle.demands.specs.Operations.{Operation, load, rest, vector, history, list, records, ask, trace, bench, Lent, slices, lentTo, Outcome, answered, told, outcome, Same}
 
 abbrev Refusing : Session → Lent → Outcome → Type 0
 Refusing s lent o = ¬ (o .number ≡ 0) → Same s lent o
@@ -45,7 +47,7 @@ load-keeps : (s : Session) (b : List ℕ) → Refusing s (slices []) (outcome s 
 unfolding loadOf judged
 load-keeps s b = by-meaning (meaning b)
   where
-    by-verdict : (c : List Net) (t : Bool) (w : Verdict) → let l = cond t (refusal s NoInput) (concluded s c (length c) w) in Refusing s (slices []) (answered (l .answer) (l .session) (slices []))
+    by-verdict : (c : List Net) (t : Bool) (w : Verdict) → let l = cond t (refusal s NoInput) (concluded s (sessionOf c) (length c) w) in Refusing s (slices []) (answered (l .answer) (l .session) (slices []))
     by-verdict c true w = refuses NoInput
     by-verdict c false (Faulty why) = refuses why
     by-verdict c false Passed = does (length c)
@@ -62,8 +64,8 @@ moves-keep s next true Passed k = does k
 
 vector-keeps : (s : Session) (e : Engine) (v : List ℕ) → Refusing s (slices []) (outcome s (vector e v))
 unfolding vectorOf stepsVectorOf
-vector-keeps s fields v = moves-keep s _ (s .rested) (vectorFits (s .inputs) v) 0
-vector-keeps s steps v = moves-keep s _ (s .rested) (vectorFits (s .inputs) v) _
+vector-keeps s Fields v = moves-keep s _ (s .rested) (vectorFits (s .inputs) v) 0
+vector-keeps s Steps v = moves-keep s _ (s .rested) (vectorFits (s .inputs) v) _
 
 rest-keeps : (s : Session) (v : List ℕ) → Refusing s (slices []) (outcome s (rest v))
 unfolding restOf

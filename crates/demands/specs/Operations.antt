@@ -10,24 +10,15 @@ use Rattle.card.specs.declared.Loaded.{Loaded}
 use Rattle.card.specs.Load.{loadOf}
 use Rattle.card.specs.Asked.{netAsked}
 use Rattle.session.specs.declared.Moved.{Moved}
-use Rattle.session.specs.Moves.{restOf, vectorOf}
+use Rattle.session.specs.Moves.{restOf}
 use Rattle.history.specs.Told.{Told, historyOf}
 use Rattle.traces.specs.Traced.{Traced, traceOf}
 use Rattle.listing.specs.Listing.{Listed, listOf}
-use Rattle.steps.specs.Vector.{stepsVectorOf}
+use Rattle.moves.specs.declared.Engine.{Engine}
+use Rattle.moves.specs.Operated.{vectorBy}
 use Rattle.step_records.specs.declared.StepRecord.{StepRecord}
 use Rattle.step_records.specs.Records.{Answered, recordsOf}
 use Rattle.bench.specs.Bench.{Benched, benchOf}
-
--- "both engines, the step list and the bit-fields" (demand 2)
-pub data Engine : Type 0 where
-  fields : Engine
-  steps : Engine
-
--- a vector by an engine
-abbrev pub vectorBy : Engine → Session → List ℕ → Moved
-vectorBy fields s v = vectorOf s v
-vectorBy steps s v = stepsVectorOf s v
 
 -- an operation, with all that it is given and lent
 pub data Operation : Type 0 where

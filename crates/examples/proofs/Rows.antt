@@ -44,7 +44,8 @@ use Rattle.text.specs.Text.{digitsIn, decimal}
 use Rattle.sheet_text.specs.Lines.{refusedLine, firstLine, values, netLine, cardText, historyLine, vectorText}
 use Rattle.sheet_text.specs.Walk.{endFrom, cardEnd, entryIn, entryAt}
 use Rattle.sheet_text.specs.Sheet.{recordsText, loadedText, sheetOf}
-use Rattle.demands.specs.Operations.{Engine, fields, steps}
+use Rattle.moves.specs.declared.Engine.{Engine}
+use Rattle.moves.specs.declared.Engine.the-variants.{Fields, Steps}
 use Rattle.examples.specs.Calls.{Call, Reply, replies}
 use Rattle.examples.specs.Table.{Line, table}
 
@@ -92,7 +93,7 @@ expected row = map (λ l. l .reply) row
 passes : List Line → Bool
 passes row = sameBy sameReply (replies none (calls row)) (expected row)
 
-all-pass : every passes (table fields) && every passes (table steps) ≡ true
+all-pass : every passes (table Fields) && every passes (table Steps) ≡ true
 unfolding passes table replies cardBytes netBytes u16At kindFits typeFits bodyFits netRecord recordAt readAt netMeant scan listed listedFrom loadOf judged none sessionOf wiredOf pinsFit mostBack openPin atPin netAt longest level depth gateOrder netSteps stepList pcSet setWords inputsOf count restOf vectorFits restedBy settled given rank value gate controls inverts controlled cardOf cardIn kindsOf typesOf countsOf placesOf openValue wordOf bit vectorOf movedBy histories ends historyOf flagOf changes causes wayBack traceOf netAsked listOf stepsVectorOf ranSession ranAlong startVars startAt ran stepIn readIn wordsOf heldIn historyWord historiesFrom greatest made step run ready readStep stepReads entriesFit orderReady orderJudged notDone benchDone benchOf digitsIn decimal refusedLine firstLine values netLine cardText historyLine vectorText endFrom cardEnd entryIn entryAt recordsText loadedText sheetOf
 all-pass = refl
 
@@ -102,5 +103,5 @@ unfolding passes
 row-holds e row m = same-by sameReply reply-same _ _ (every-at passes (table e) (by-engine e) row m)
   where
     by-engine : (e : Engine) → every passes (table e) ≡ true
-    by-engine fields = and-both (every passes (table fields)) _ all-pass .0
-    by-engine steps = and-both (every passes (table fields)) _ all-pass .1
+    by-engine Fields = and-both (every passes (table Fields)) _ all-pass .0
+    by-engine Steps = and-both (every passes (table Fields)) _ all-pass .1

@@ -3,7 +3,9 @@ use mathlib.Core.List.{List, [], _∷_, _++_}
 use Prim.Native.Nat.{ℕ, _-_, _^_}
 use Rattle.rule.specs.Net.{Net, input, gate, openPin}
 use Rattle.records.specs.Written.{cardBytes}
-use Rattle.demands.specs.Operations.{Engine, fields, steps, Operation, load, rest, vector, history, list, ask, trace, bench}
+use Rattle.moves.specs.declared.Engine.{Engine}
+use Rattle.moves.specs.declared.Engine.the-variants.{Fields, Steps}
+use Rattle.demands.specs.Operations.{Operation, load, rest, vector, history, list, ask, trace, bench}
 use Rattle.examples.specs.Calls.{Call, does, print, Reply, printed, lent}
 
 -- a call, and what it hands back
@@ -32,8 +34,8 @@ refused number rooms = record { number = number; count = 0; level = 0; word = 0;
 
 -- "rest and a vector by fields 0"; "A vector by steps and a bench run return the steps done."
 abbrev pub stepped : Engine → ℕ → Reply
-stepped fields count = done 0 []
-stepped steps count = done count []
+stepped Fields count = done 0 []
+stepped Steps count = done count []
 
 -- a word of 64 ones
 abbrev pub ones : ℕ

@@ -9,35 +9,33 @@ use lib.Dec.{ltb, leb, lit<, lit≤}
 use lib.ListN.{length, getD}
 use Rattle.lists.specs.Entries.{_∈_}
 use Rattle.lists.proofs.Places.{clear-make}
-use Rattle.rule.specs.Steps.{stepList}
 use Rattle.rule.specs.declared.Refusal.the-variants.{NotReady, NoRoom}
 use Rattle.rule.specs.declared.Answer.{Answer}
 use Rattle.rule.specs.declared.Answer.the-variants.{Done, Refused}
 use Rattle.rule.specs.Numbers.{answerNumber, answerCount}
-use Rattle.wiring.specs.declared.Verdict.{Verdict}
-use Rattle.wiring.specs.declared.Verdict.the-variants.{Refused as Faulty, Passed}
-use Rattle.inputs.specs.Inputs.{given, vectorFits}
+use Rattle.inputs.specs.Inputs.{given}
 use Rattle.records.specs.Written.{Bytes}
 use Rattle.card.specs.declared.Session.{Session}
 use Rattle.card.specs.declared.Loaded.{Loaded}
-use Rattle.card.specs.Session.{none, cardOf}
+use Rattle.card.specs.Session.{none}
 use Rattle.card.specs.Load.{loadOf}
 use Rattle.card.proofs.Kept.{nets-are, card-fits, card-steps}
 use Rattle.card.proofs.Verdicts.{ruled as load-ruled, Ruling as LoadRuling, refuses as load-refuses, takes as load-takes}
 use Rattle.session.specs.declared.Moved.{Moved}
 use Rattle.session.specs.Good.{Good}
-use Rattle.session.specs.Moves.{refusedMove, moving, movedBy, vectorOf, restedBy, restOf}
-use Rattle.session.proofs.Refusals.{Ruling, refuses, takes, rest-ruled, vector-ruled}
+use Rattle.session.specs.Moves.{movedBy, restedBy, restOf}
+use Rattle.session.proofs.Refusals.{Ruling, refuses, takes, rest-ruled}
 use Rattle.history.specs.Told.{Told, historyOf}
 use Rattle.history.proofs.Histories.{history-refused}
-use Rattle.steps.specs.Runs.{Ran}
-use Rattle.steps.specs.Vector.{ranAlong, ranSession, stepsVectorOf}
-use Rattle.steps.proofs.Engines.{run-count, engines-equal}
+use Rattle.moves.specs.declared.Engine.{Engine}
+use Rattle.moves.specs.declared.Engine.the-variants.{Fields, Steps}
+use Rattle.moves.specs.declared.Move.{Move}
+use Rattle.moves.specs.declared.Move.the-variants.{Load, Rest, Vector}
+use Rattle.moves.specs.Operated.{vectorBy, operated}
+use Rattle.moves.proofs.Engines.{countBy, by-ruled}
 use Rattle.making.specs.Made.{madeAgain}
 use Rattle.making.proofs.Making.{again-good}
-use Rattle.host.specs.declared.Move.{Move}
-use Rattle.host.specs.declared.Move.the-variants.{Load, Rest, Vector, Steps}
-use Rattle.host.specs.Calls.{packed, operated, Hosted, Shown, leftBy, hostMove, hostHistory}
+use Rattle.host.specs.Calls.{packed, Hosted, Shown, leftBy, hostMove, hostHistory}
 use Rattle.host.proofs.Answering.{move-left, history-shown}
 use Rattle.following.specs.Following.{Holding, Call, bytesAfter, sessionAfter, hostAnswers, libraryAnswers}
 use Rattle.following.proofs.Opened.{Kept, keeps-none, opened, closed}
@@ -125,40 +123,21 @@ module _ (b : List ℕ) (s : Session) (h : Holding b s) where
     rest-follows : Follows Rest (restOf s v)
     rest-follows = go (restOf s v) (rest-ruled s v)
       where
-        go : (x : Moved) → Ruling (s .loaded) s v (restedBy s (given (s .kinds) v)) x → Follows Rest x
+        go : (x : Moved) → Ruling (s .loaded) s v 0 (restedBy s (given (s .kinds) v)) x → Follows Rest x
         go x (refuses r w) = h
         go x (takes l w) = rest-holds b v (h .room) (h .bytes) g s held-kept l w
 
-    vector-follows : Follows Vector (vectorOf s v)
-    vector-follows = go (vectorOf s v) (vector-ruled s v)
+    vector-follows : (engine : Engine) → Follows (Vector engine) (vectorBy engine s v)
+    vector-follows engine = go (vectorBy engine s v) (by-ruled engine s held-good v)
       where
-        go : (x : Moved) → Ruling (s .rested) s v (movedBy s (given (s .kinds) v)) x → Follows Vector x
+        go : (x : Moved) → Ruling (s .rested) s v (countBy engine s) (movedBy s (given (s .kinds) v)) x → Follows (Vector engine) x
         go x (refuses r w) = h
-        go x (takes l w) = vector-holds b v (h .room) (h .bytes) g s held-kept l w
-
-    -- the steps leave the same bytes, since they take the same vectors
-    same-bytes : leftBy Vector (vectorOf s v .answer) b v .bytes ≡ leftBy Steps (stepsVectorOf s v .answer) b v .bytes
-    unfolding stepsVectorOf vectorOf
-    same-bytes = go (s .rested) (vectorFits (s .inputs) v) (ranAlong s (given (s .kinds) v) (stepList (cardOf s)) .count)
-        (movedBy s (given (s .kinds) v)) (ranSession s (ranAlong s (given (s .kinds) v) (stepList (cardOf s))))
-      where
-        go : (x : Bool) (f : Verdict) (count : ℕ) (p q : Session)
-            → leftBy Vector (cond x (moving s f 0 p) (refusedMove s NotReady) .answer) b v .bytes
-            ≡ leftBy Steps (cond x (moving s f count q) (refusedMove s NotReady) .answer) b v .bytes
-        go false f count p q = refl
-        go true (Faulty why) count p q = refl
-        go true Passed count p q = refl
-
-    steps-follow : Follows Steps (stepsVectorOf s v)
-    steps-follow =
-        subst (Holding (leftBy Steps (stepsVectorOf s v .answer) b v .bytes)) (sym (engines-equal s held-good v))
-        (subst (λ x. Holding x (vectorOf s v .session)) same-bytes vector-follows)
+        go x (takes l w) = vector-holds b v (h .room) (h .bytes) g engine s held-kept l w
 
     follows : (how : Move) → Follows how (operated how s v)
     follows Load = load-follows
     follows Rest = rest-follows
-    follows Vector = vector-follows
-    follows Steps = steps-follow
+    follows (Vector engine) = vector-follows engine
 
 -- the bytes that a call leaves hold the session that the operation leaves, and the call answers what the operation answers
 pub move-follows : (how : Move) (b v : List ℕ) (s : Session) → Holding b s → Bytes v
@@ -208,31 +187,18 @@ module _ (s : Session) (v : List ℕ) where
       go x (load-refuses r w) = lit≤ tt
       go x (load-takes a) = omega (arith, a .accepted .legible .few)
 
-  few-ruled : (ready : Bool) (next : Session) (x : Moved) → Ruling ready s v next x → answerCount (x .answer) ≤ 4096
-  few-ruled ready next x (refuses r w) = lit≤ tt
-  few-ruled ready next x (takes l w) = lit≤ tt
+  few-ruled : (ready : Bool) (count : ℕ) (next : Session) (x : Moved) → Ruling ready s v count next x → (ready ≡ true → count ≤ 4096) → answerCount (x .answer) ≤ 4096
+  few-ruled ready count next x (refuses r w) few = lit≤ tt
+  few-ruled ready count next x (takes l w) few = few l
 
-  few-steps : Good s → answerCount (stepsVectorOf s v .answer) ≤ 4096
-  unfolding stepsVectorOf
-  few-steps g = go (s .rested) refl (vectorFits (s .inputs) v)
-    where
-      new : ℕ → Bool
-      new = given (s .kinds) v
-
-      run : Ran
-      run = ranAlong s new (stepList (cardOf s))
-
-      go : (x : Bool) → s .rested ≡ x → (f : Verdict)
-          → answerCount (cond x (moving s f (run .count) (ranSession s run)) (refusedMove s NotReady) .answer) ≤ 4096
-      go false e f = lit≤ tt
-      go true e (Faulty why) = lit≤ tt
-      go true e Passed = omega (arith, run-count s new (stepList (cardOf s)), card-steps s (g .card (g .rest e .0)))
+  few-by : (engine : Engine) → Good s → s .rested ≡ true → countBy engine s ≤ 4096
+  few-by Fields g l = lit≤ tt
+  few-by Steps g l = card-steps s (g .card (g .rest l .0))
 
   few-counted : (how : Move) → Good s → Bytes v → answerCount (operated how s v .answer) ≤ 4096
   few-counted Load g h = few-load h
-  few-counted Rest g h = few-ruled (s .loaded) (restedBy s (given (s .kinds) v)) (restOf s v) (rest-ruled s v)
-  few-counted Vector g h = few-ruled (s .rested) (movedBy s (given (s .kinds) v)) (vectorOf s v) (vector-ruled s v)
-  few-counted Steps g h = few-steps g
+  few-counted Rest g h = few-ruled (s .loaded) 0 (restedBy s (given (s .kinds) v)) (restOf s v) (rest-ruled s v) (λ l. lit≤ tt)
+  few-counted (Vector engine) g h = few-ruled (s .rested) (countBy engine s) (movedBy s (given (s .kinds) v)) (vectorBy engine s v) (by-ruled engine s g v) (few-by engine g)
 
   pub packed-plain : (how : Move) → Good s → Bytes v
       → packed (operated how s v .answer) ≡ answerNumber (operated how s v .answer) + 256 * answerCount (operated how s v .answer)

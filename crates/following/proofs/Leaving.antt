@@ -18,8 +18,9 @@ use Rattle.card.specs.Session.{none, sessionOf, cardOf}
 use Rattle.card.specs.Allowed.{Allowed}
 use Rattle.card.proofs.Kept.{session-holds}
 use Rattle.session.specs.Moves.{movedBy, restedBy}
-use Rattle.keeping.specs.Kept.{lastRoom, keptCard, keptRest, keptVector}
-use Rattle.keeping.proofs.Bytes.{room-bytes, one-byte, zero-byte}
+use Rattle.moves.specs.declared.Engine.{Engine}
+use Rattle.keeping.specs.Kept.{lastRoom, markOf, keptCard, keptRest, keptVector}
+use Rattle.keeping.proofs.Bytes.{room-bytes, one-byte, zero-byte, mark-byte}
 use Rattle.making.proofs.Making.{inputs-few}
 use Rattle.following.specs.Following.{Holding}
 use Rattle.following.proofs.Rooms.{card-long, card-bytes, card-state, card-fitting, card-length, card-clear, card-part, rooms, rooms-long, rooms-bytes, rooms-state, rooms-length, rooms-clear, rooms-card, rooms-fit, rooms-given, room-moved, room-ends}
@@ -82,15 +83,16 @@ module _ (b v : List ℕ) (long : 5895 ≤ length b) (bytes : Bytes b) (given-by
 
     -- A card at rest that a vector just moved
 
-    moved-kept : clear b (259 + inputs c) 515 ≡ true → Vector (inputs c) (part b 259 (inputs c))
-        → Kept (rooms b 3 (lastRoom b) v) (afterBoth c (part b 259 (inputs c)) v)
-    moved-kept f u =
-        let e = as-given 3 (lastRoom b) in
-        let m = room-moved b v long (inputs c) (inputs-few c (d .accepted)) in
-        subst (λ x. Kept (rooms b 3 (lastRoom b) v) (afterBoth c x v)) m
-        (subst (λ x. Kept (rooms b 3 (lastRoom b) v) (afterBoth c (part (rooms b 3 (lastRoom b) v) 3 (inputs c)) x)) e
-        (keeps-moved c (carried-on 3 (lastRoom b) c d) (rooms-state b 3 (lastRoom b) v long)
-        (rooms-fit b 3 (lastRoom b) v long (inputs c) (inputs c) (room-ends b (inputs c) f) (λ i l u. past i l))
+    moved-kept : (engine : Engine) → clear b (259 + inputs c) 515 ≡ true → Vector (inputs c) (part b 259 (inputs c))
+        → Kept (rooms b (markOf engine) (lastRoom b) v) (afterBoth c (part b 259 (inputs c)) v)
+    moved-kept engine f u =
+        let k = markOf engine in
+        let e = as-given k (lastRoom b) in
+        let m = room-moved b k v long (inputs c) (inputs-few c (d .accepted)) in
+        subst (λ x. Kept (rooms b k (lastRoom b) v) (afterBoth c x v)) m
+        (subst (λ x. Kept (rooms b k (lastRoom b) v) (afterBoth c (part (rooms b k (lastRoom b) v) 3 (inputs c)) x)) e
+        (keeps-moved engine c (carried-on k (lastRoom b) c d) (rooms-state b k (lastRoom b) v long)
+        (rooms-fit b k (lastRoom b) v long (inputs c) (inputs c) (room-ends b (inputs c) f) (λ i l u. past i l))
         (subst (Vector (inputs c)) (sym m) u) (subst (Vector (inputs c)) (sym e) w)))
 
   -- whatever the session was
@@ -100,18 +102,18 @@ module _ (b v : List ℕ) (long : 5895 ≤ length b) (bytes : Bytes b) (given-by
   rest-kept s (keeps-none z e) l w = absurd (false≢true l)
   rest-kept s (keeps-card c d z f) l w = rested-kept c d w
   rest-kept s (keeps-rest c d z f u) l w = rested-kept c d w
-  rest-kept s (keeps-moved c d z f u t) l w = rested-kept c d w
+  rest-kept s (keeps-moved e c d z f u t) l w = rested-kept c d w
 
-  vector-kept : (s : Session) → Kept b s → s .rested ≡ true → Vector (s .inputs) v → Kept (rooms b 3 (lastRoom b) v) (movedBy s (given (s .kinds) v))
+  vector-kept : (engine : Engine) (s : Session) → Kept b s → s .rested ≡ true → Vector (s .inputs) v → Kept (rooms b (markOf engine) (lastRoom b) v) (movedBy s (given (s .kinds) v))
   unfolding none sessionOf restedBy movedBy
-  vector-kept s (keeps-none z e) l w = absurd (false≢true l)
-  vector-kept s (keeps-card c d z f) l w = absurd (false≢true l)
-  vector-kept s (keeps-rest c d z f u) l w = moved-kept c d w (and-both (clear b 3 259) (clear b (259 + inputs c) 515) f .1) u
-  vector-kept s (keeps-moved c d z f u t) l w =
+  vector-kept engine s (keeps-none z e) l w = absurd (false≢true l)
+  vector-kept engine s (keeps-card c d z f) l w = absurd (false≢true l)
+  vector-kept engine s (keeps-rest c d z f u) l w = moved-kept c d w engine (and-both (clear b 3 259) (clear b (259 + inputs c) 515) f .1) u
+  vector-kept engine s (keeps-moved e c d z f u t) l w =
       let o = values c (part b 3 (inputs c)) in
       let last = values c (part b 259 (inputs c)) in
-      subst (Kept (rooms b 3 (lastRoom b) v)) (sym (moved-again (sessionOf c) (session-holds c (d .accepted)) o last (values c v)))
-      (moved-kept c d w (and-both (clear b (3 + inputs c) 259) (clear b (259 + inputs c) 515) f .1) t)
+      subst (Kept (rooms b (markOf engine) (lastRoom b) v)) (sym (moved-again (sessionOf c) (session-holds c (d .accepted)) o last (values c v)))
+      (moved-kept c d w engine (and-both (clear b (3 + inputs c) 259) (clear b (259 + inputs c) 515) f .1) t)
 
   pub rest-holds : (s : Session) → Kept b s → s .loaded ≡ true → Vector (s .inputs) v → Holding (keptRest b v) (restedBy s (given (s .kinds) v))
   unfolding keptRest
@@ -120,9 +122,10 @@ module _ (b v : List ℕ) (long : 5895 ≤ length b) (bytes : Bytes b) (given-by
       let h = rooms-bytes b 2 o v long bytes (lit< tt) (one-byte 0 (lit< tt)) given-bytes in
       record { room = rooms-long b 2 o v long; bytes = h; made = closed (rooms b 2 o v) h (restedBy s (given (s .kinds) v)) (rest-kept s k l w) }
 
-  pub vector-holds : (s : Session) → Kept b s → s .rested ≡ true → Vector (s .inputs) v → Holding (keptVector b v) (movedBy s (given (s .kinds) v))
+  pub vector-holds : (engine : Engine) (s : Session) → Kept b s → s .rested ≡ true → Vector (s .inputs) v → Holding (keptVector engine b v) (movedBy s (given (s .kinds) v))
   unfolding keptVector
-  vector-holds s k l w =
+  vector-holds engine s k l w =
+      let m = markOf engine in
       let o = lastRoom b in
-      let h = rooms-bytes b 3 o v long bytes (lit< tt) (room-bytes b bytes) given-bytes in
-      record { room = rooms-long b 3 o v long; bytes = h; made = closed (rooms b 3 o v) h (movedBy s (given (s .kinds) v)) (vector-kept s k l w) }
+      let h = rooms-bytes b m o v long bytes (mark-byte engine) (room-bytes b bytes) given-bytes in
+      record { room = rooms-long b m o v long; bytes = h; made = closed (rooms b m o v) h (movedBy s (given (s .kinds) v)) (vector-kept engine s k l w) }

@@ -23,12 +23,19 @@ use Rattle.card.specs.Load.{loadOf, taken}
 use Rattle.card.specs.Allowed.{Accepted}
 use Rattle.card.proofs.Verdicts.{load-takes, ruled as load-ruled, Ruling as LoadRuling, refuses as load-refuses, takes as load-allows}
 use Rattle.session.specs.declared.Moved.{Moved}
-use Rattle.session.specs.Moves.{movedBy, vectorOf, restedBy, restOf}
-use Rattle.session.proofs.Refusals.{Ruling, refuses, takes, rest-ruled, rest-takes, vector-ruled, vector-takes}
+use Rattle.session.specs.Good.{Good}
+use Rattle.session.specs.Moves.{movedBy, restedBy, restOf}
+use Rattle.session.proofs.Kept.{taken-good, rested-good}
+use Rattle.session.proofs.Refusals.{Ruling, refuses, takes, rest-ruled, rest-takes}
+use Rattle.moves.specs.declared.Engine.{Engine}
+use Rattle.moves.specs.declared.Engine.the-variants.{Fields, Steps}
+use Rattle.moves.specs.Operated.{vectorBy}
+use Rattle.moves.proofs.Engines.{countBy, by-takes, by-ruled}
+use Rattle.keeping.specs.Kept.{markOf}
 use Rattle.keeping.proofs.Bytes.{part-bytes}
 use Rattle.making.specs.declared.Made.{Made}
 use Rattle.making.specs.Made.{broken, done, held, madeBy, fitting, madePlain, madeRested, madeMoved, madeCard, madeLoaded, madeAgain}
-use Rattle.making.proofs.Making.{by-done, plain-is, rested-is, moved-is, card-1, card-2, card-3, loaded-is, again-none, again-loaded}
+use Rattle.making.proofs.Making.{by-done, plain-is, rested-is, moved-is, card-1, card-2, card-moved, loaded-is, again-none, again-loaded}
 
 -- the bytes carry a card
 pub record Carried (b : List ℕ) (c : List Net) : Type 0 where
@@ -57,7 +64,7 @@ pub data Kept (b : List ℕ) : Session → Type 0 where
   keeps-card : (c : List Net) → Carried b c → getD b 0 0 ≡ 1 → fitting b 0 0 ≡ true → Kept b (sessionOf c)
   keeps-rest : (c : List Net) → Carried b c → getD b 0 0 ≡ 2 → fitting b 0 (inputs c) ≡ true → Vector (inputs c) (part b 259 (inputs c))
       → Kept b (atRest c (part b 259 (inputs c)))
-  keeps-moved : (c : List Net) → Carried b c → getD b 0 0 ≡ 3 → fitting b (inputs c) (inputs c) ≡ true → Vector (inputs c) (part b 3 (inputs c))
+  keeps-moved : (e : Engine) (c : List Net) → Carried b c → getD b 0 0 ≡ markOf e → fitting b (inputs c) (inputs c) ≡ true → Vector (inputs c) (part b 3 (inputs c))
       → Vector (inputs c) (part b 259 (inputs c)) → Kept b (afterBoth c (part b 3 (inputs c)) (part b 259 (inputs c)))
 
 -- Of a card just loaded
@@ -70,9 +77,18 @@ is-loaded c = refl
 pub rest-taken : (c : List Net) (v : List ℕ) → Vector (inputs c) v → restOf (sessionOf c) v ≡ record { answer = Done 0; session = atRest c v }
 rest-taken c v w = rest-takes (sessionOf c) v (is-loaded c) w
 
-pub both-taken : (c : List Net) (v w : List ℕ) → Vector (inputs c) w → vectorOf (atRest c v) w ≡ record { answer = Done 0; session = afterBoth c v w }
+pub rest-good : (c : List Net) (v : List ℕ) → Accepted c → Good (atRest c v)
+rest-good c v a = rested-good (sessionOf c) (taken-good c a) (is-loaded c) (values c v)
+
+pub both-taken : (e : Engine) (c : List Net) (v w : List ℕ) → Accepted c → Vector (inputs c) w
+    → vectorBy e (atRest c v) w ≡ record { answer = Done (countBy e (atRest c v)); session = afterBoth c v w }
 unfolding restedBy
-both-taken c v w h = vector-takes (atRest c v) w refl h
+both-taken e c v w a h = by-takes e (atRest c v) (rest-good c v a) refl w h
+
+-- a card that a vector moved is some card
+mark-some : (e : Engine) → ¬ (markOf e ≡ 0)
+mark-some Fields q = omega arith
+mark-some Steps q = omega arith
 
 -- Bytes that say so hold the session
 
@@ -97,14 +113,13 @@ module _ (b : List ℕ) (h : Bytes b) where
       by-card c s k (λ o. let x = sym z ∙ o in omega arith)
       (sym (card-2 b (sessionOf c) z) ∙ sym (rested-is b (sessionOf c) f) ∙ ap madeBy t
       ∙ sym (by-done (record { answer = Done 0; session = s }) 0 refl))
-  closed s (keeps-moved c k z f w u) =
+  closed s (keeps-moved e c k z f w u) =
       let o = part b 3 (inputs c) in
       let v = part b 259 (inputs c) in
-      let t = rest-taken c o w in
-      let m = both-taken c o v u in
-      by-card c s k (λ o. let x = sym z ∙ o in omega arith)
-      (sym (card-3 b (sessionOf c) z) ∙ sym (moved-is b (sessionOf c) f (record { answer = Done 0; session = atRest c o }) (sym t) 0 refl)
-      ∙ ap madeBy m ∙ sym (by-done (record { answer = Done 0; session = s }) 0 refl))
+      let count = countBy e (atRest c o) in
+      by-card c s k (λ n. mark-some e (sym z ∙ n))
+      (sym (card-moved b (sessionOf c) e z) ∙ sym (moved-is b (sessionOf c) e f (record { answer = Done 0; session = atRest c o }) (sym (rest-taken c o w)) 0 refl)
+      ∙ ap madeBy (both-taken e c o v (k .accepted) u) ∙ sym (by-done (record { answer = Done count; session = s }) count refl))
 
   -- Bytes that hold a session say so
 
@@ -131,7 +146,7 @@ module _ (b : List ℕ) (h : Bytes b) where
         v : List ℕ
         v = part b 259 (inputs c)
 
-        by : fitting b 0 (inputs c) ≡ true → (m : Moved) → Ruling (sessionOf c .loaded) (sessionOf c) v (atRest c v) m
+        by : fitting b 0 (inputs c) ≡ true → (m : Moved) → Ruling (sessionOf c .loaded) (sessionOf c) v 0 (atRest c v) m
             → Opens (done (m .answer) (held (m .session)))
         by f m (refuses r g) = opens-not
         by f m (takes l w) = inr (keeps-rest c k z f w)
@@ -140,9 +155,9 @@ module _ (b : List ℕ) (h : Bytes b) where
         go true f = by f (restOf (sessionOf c) v) (rest-ruled (sessionOf c) v)
         go false f = opens-not
 
-    opens-moved : getD b 0 0 ≡ 3 → Opens (madeMoved b (sessionOf c))
+    opens-moved : (e : Engine) → getD b 0 0 ≡ markOf e → Opens (madeMoved e b (sessionOf c))
     unfolding madeMoved madeBy restedBy
-    opens-moved z = go (fitting b (inputs c) (inputs c)) refl
+    opens-moved e z = go (fitting b (inputs c) (inputs c)) refl
       where
         o : List ℕ
         o = part b 3 (inputs c)
@@ -151,31 +166,33 @@ module _ (b : List ℕ) (h : Bytes b) where
         v = part b 259 (inputs c)
 
         last : fitting b (inputs c) (inputs c) ≡ true → Vector (inputs c) o
-            → (m : Moved) → Ruling (atRest c o .rested) (atRest c o) v (afterBoth c o v) m
+            → (m : Moved) → Ruling (atRest c o .rested) (atRest c o) v (countBy e (atRest c o)) (afterBoth c o v) m
             → Opens (done (m .answer) (held (m .session)))
         last f w m (refuses r g) = opens-not
-        last f w m (takes l u) = inr (keeps-moved c k z f w u)
+        last f w m (takes l u) = inr (keeps-moved e c k z f w u)
 
-        by : fitting b (inputs c) (inputs c) ≡ true → (m : Moved) → Ruling (sessionOf c .loaded) (sessionOf c) o (atRest c o) m
-            → Opens (done (m .answer) (madeBy (vectorOf (m .session) v)))
+        by : fitting b (inputs c) (inputs c) ≡ true → (m : Moved) → Ruling (sessionOf c .loaded) (sessionOf c) o 0 (atRest c o) m
+            → Opens (done (m .answer) (madeBy (vectorBy e (m .session) v)))
         by f m (refuses r g) = opens-not
-        by f m (takes l w) = last f w (vectorOf (atRest c o) v) (vector-ruled (atRest c o) v)
+        by f m (takes l w) = last f w (vectorBy e (atRest c o) v) (by-ruled e (atRest c o) (rest-good c o (k .accepted)) v)
 
         go : (x : Bool) → fitting b (inputs c) (inputs c) ≡ x
-            → Opens (cond x (done (restOf (sessionOf c) o .answer) (madeBy (vectorOf (restOf (sessionOf c) o .session) v))) broken)
+            → Opens (cond x (done (restOf (sessionOf c) o .answer) (madeBy (vectorBy e (restOf (sessionOf c) o .session) v))) broken)
         go true f = by f (restOf (sessionOf c) o) (rest-ruled (sessionOf c) o)
         go false f = opens-not
 
     opens-card : Opens (madeCard b (sessionOf c))
     unfolding madeCard
-    opens-card = go (eqb (getD b 0 0) 1) refl (eqb (getD b 0 0) 2) refl (eqb (getD b 0 0) 3) refl
+    opens-card = go (eqb (getD b 0 0) 1) refl (eqb (getD b 0 0) 2) refl (eqb (getD b 0 0) 3) refl (eqb (getD b 0 0) 4) refl
       where
-        go : (x : Bool) → eqb (getD b 0 0) 1 ≡ x → (y : Bool) → eqb (getD b 0 0) 2 ≡ y → (z : Bool) → eqb (getD b 0 0) 3 ≡ z
-            → Opens (cond x (madePlain b (sessionOf c)) (cond y (madeRested b (sessionOf c)) (cond z (madeMoved b (sessionOf c)) broken)))
-        go true e y _ z _ = opens-plain (eqb-true (getD b 0 0) 1 e)
-        go false _ true e z _ = opens-rested (eqb-true (getD b 0 0) 2 e)
-        go false _ false _ true e = opens-moved (eqb-true (getD b 0 0) 3 e)
-        go false _ false _ false _ = opens-not
+        go : (x : Bool) → eqb (getD b 0 0) 1 ≡ x → (y : Bool) → eqb (getD b 0 0) 2 ≡ y → (z : Bool) → eqb (getD b 0 0) 3 ≡ z → (w : Bool) → eqb (getD b 0 0) 4 ≡ w
+            → Opens (cond x (madePlain b (sessionOf c))
+            (cond y (madeRested b (sessionOf c)) (cond z (madeMoved Fields b (sessionOf c)) (cond w (madeMoved Steps b (sessionOf c)) broken))))
+        go true e y _ z _ w _ = opens-plain (eqb-true (getD b 0 0) 1 e)
+        go false _ true e z _ w _ = opens-rested (eqb-true (getD b 0 0) 2 e)
+        go false _ false _ true e w _ = opens-moved Fields (eqb-true (getD b 0 0) 3 e)
+        go false _ false _ false _ true e = opens-moved Steps (eqb-true (getD b 0 0) 4 e)
+        go false _ false _ false _ false _ = opens-not
 
   opens-loaded : u16At b 1 ≤ 5380 → clear b (515 + u16At b 1) 5895 ≡ true → Opens (madeLoaded b (u16At b 1))
   unfolding madeLoaded

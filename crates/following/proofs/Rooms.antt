@@ -1,18 +1,20 @@
 -- What stands where in the bytes that a call leaves. Assumes nothing.
-use mathlib.Core.Path.{_≡_, refl, ap, ap₂, _∙_}
+use mathlib.Core.Path.{_≡_, ap, ap₂, subst, _∙_}
 use mathlib.Core.Bool.{true}
 use mathlib.Core.List.{List, [], _∷_}
 use mathlib.Core.Logic.{_⊎_, inl, inr}
 use Prim.Native.Nat.{ℕ, zero, suc, _+_, _-_, _*_, _/_, _%_, _≤_, _<_}
 use native.Mathlib.Omega.{arith}
+use native.Mathlib.Decide.{decLt}
 use lib.Dec.{lit<, lit≤}
 use lib.ListN.{length, getD, List·getD-eq-default}
+use lib.Seq.{ext-getD}
 use Rattle.lists.specs.Places.{part, clear, area}
 use Rattle.lists.proofs.Bools.{and-make}
 use Rattle.lists.proofs.Places.{clear-at, clear-make, length-area, area-in, area-out, part-same, part-whole}
 use Rattle.records.specs.Bytes.{u16At}
 use Rattle.records.specs.Written.{Bytes}
-use Rattle.keeping.specs.Kept.{lastRoom, keptCard, keptRest, keptVector}
+use Rattle.keeping.specs.Kept.{lastRoom, keptCard}
 use Rattle.keeping.proofs.Bytes.{area-bytes, room-at, one-byte, zero-byte}
 use Rattle.making.specs.Made.{fitting}
 
@@ -190,20 +192,31 @@ module _ (b : List ℕ) (k : ℕ) (o v : List ℕ) where
     pub rooms-given : length v ≤ 256 → part rooms 259 (length v) ≡ v
     rooms-given f = let r = rooms-long in part-whole rooms v 259 (omega arith) (λ i l. rooms-last i (omega arith))
 
-pub rest-rooms : (b v : List ℕ) → keptRest b v ≡ rooms b 2 (0 ∷ []) v
-unfolding keptRest
-rest-rooms b v = refl
-
-pub vector-rooms : (b v : List ℕ) → keptVector b v ≡ rooms b 3 (lastRoom b) v
-unfolding keptVector
-vector-rooms b v = refl
-
 -- where the last vector goes when another one comes
-pub room-moved : (b v : List ℕ) → 5895 ≤ length b → (n : ℕ) → n ≤ 256 → part (rooms b 3 (lastRoom b) v) 3 n ≡ part b 259 n
-room-moved b v long n f =
-    let r = rooms-long b 3 (lastRoom b) v long in
-    part-same (rooms b 3 (lastRoom b) v) b 3 259 n (omega arith) (omega arith)
-    (λ i l. rooms-older b 3 (lastRoom b) v long i (omega arith) ∙ room-at b i (omega arith))
+pub room-moved : (b : List ℕ) (k : ℕ) (v : List ℕ) → 5895 ≤ length b → (n : ℕ) → n ≤ 256 → part (rooms b k (lastRoom b) v) 3 n ≡ part b 259 n
+room-moved b k v long n f =
+    let r = rooms-long b k (lastRoom b) v long in
+    part-same (rooms b k (lastRoom b) v) b 3 259 n (omega arith) (omega arith)
+    (λ i l. rooms-older b k (lastRoom b) v long i (omega arith) ∙ room-at b i (omega arith))
 
 pub room-ends : (b : List ℕ) (n : ℕ) → clear b (259 + n) 515 ≡ true → (i : ℕ) → n ≤ i → i < 256 → getD (lastRoom b) i 0 ≡ 0
 room-ends b n e i l u = room-at b i u ∙ clear-at b (259 + n) 515 e (259 + i) (omega arith) (omega arith)
+
+-- the same where the card stands, and past all that is kept
+abbrev pub Elsewhere : List ℕ → List ℕ → Type 0
+Elsewhere x b = (i : ℕ) → (i < 3) ⊎ (515 ≤ i) → 0 < i → i < length b → getD x i 0 ≡ getD b i 0
+
+-- bytes that are the same there, in the state and in the two rooms are the same
+pub same-bytes : (x b : List ℕ) → length x ≡ length b → getD x 0 0 ≡ getD b 0 0 → ((i : ℕ) → i < 256 → getD x (3 + i) 0 ≡ getD b (3 + i) 0)
+    → ((i : ℕ) → i < 256 → getD x (259 + i) 0 ≡ getD b (259 + i) 0) → Elsewhere x b → x ≡ b
+same-bytes x b e z p q r = ext-getD 0 x b e (λ i l. at i (omega arith) (decLt i 1) (decLt i 3) (decLt i 259) (decLt i 515))
+  where
+    by : (a i : ℕ) → a ≤ i → getD x (a + (i - a)) 0 ≡ getD b (a + (i - a)) 0 → getD x i 0 ≡ getD b i 0
+    by a i l h = let m : a + (i - a) ≡ i = omega arith in subst (λ j. getD x j 0 ≡ getD b j 0) m h
+
+    at : (i : ℕ) → i < length b → Dec (i < 1) → Dec (i < 3) → Dec (i < 259) → Dec (i < 515) → getD x i 0 ≡ getD b i 0
+    at i l (yes a) c d f = let m : 0 ≡ i = omega arith in subst (λ j. getD x j 0 ≡ getD b j 0) m z
+    at i l (no a) (yes c) d f = r i (inl c) (omega arith) l
+    at i l (no a) (no c) (yes d) f = by 3 i (omega arith) (p (i - 3) (omega arith))
+    at i l (no a) (no c) (no d) (yes f) = by 259 i (omega arith) (q (i - 259) (omega arith))
+    at i l (no a) (no c) (no d) (no f) = r i (inr (omega arith)) (omega arith) l

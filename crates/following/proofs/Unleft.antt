@@ -21,17 +21,20 @@ use Rattle.records.specs.Bytes.{u16At}
 use Rattle.records.specs.Written.{Bytes}
 use Rattle.card.specs.declared.Session.{Session}
 use Rattle.card.specs.Session.{none, sessionOf}
-use Rattle.keeping.specs.Kept.{lastRoom, keptCard, keptRest, keptVector}
+use Rattle.moves.specs.declared.Engine.{Engine}
+use Rattle.moves.specs.declared.Move.{Move}
+use Rattle.moves.specs.declared.Move.the-variants.{Load, Rest, Vector as ByEngine}
+use Rattle.moves.specs.Operated.{operated}
+use Rattle.moves.proofs.Engines.{countBy}
+use Rattle.keeping.specs.Kept.{lastRoom, markOf, keptCard, keptRest, keptVector, keptBy}
 use Rattle.keeping.proofs.Bytes.{area-bytes, part-bytes, room-at, zero-byte}
 use Rattle.making.specs.Made.{fitting, madeAgain}
-use Rattle.host.specs.declared.Move.{Move}
-use Rattle.host.specs.declared.Move.the-variants.{Load, Rest, Vector as ByFields}
-use Rattle.host.specs.Calls.{packed, operated, keptBy, leftBy, hostMove}
+use Rattle.host.specs.Calls.{packed, leftBy, hostMove}
 use Rattle.host.proofs.Answering.{move-broken, history-broken}
 use Rattle.host.proofs.Vectors.{vectors-broken}
 use Rattle.following.specs.Following.{Holding, Call, bytesAfter, sessionAfter}
 use Rattle.following.specs.Left.{Left, Unready}
-use Rattle.following.proofs.Rooms.{length-card, card-head, card-none, card-at, card-past, card-state, rooms, length-rooms, rooms-state, kept-at, rooms-older, rooms-last}
+use Rattle.following.proofs.Rooms.{length-card, card-head, card-none, card-at, card-past, card-state, rooms, length-rooms, rooms-state, kept-at, rooms-older, rooms-last, Elsewhere, same-bytes}
 use Rattle.following.proofs.Opened.{Carried, inputs, atRest, afterBoth, Kept, keeps-none, keeps-card, keeps-rest, keeps-moved, carries, opened, rest-taken, both-taken}
 use Rattle.following.proofs.Following.{zeros-hold, move-is, move-follows, all-follow}
 
@@ -44,25 +47,6 @@ part-padded b at n to e i u = go (decLt i n)
     go (no l) =
         let short : length (part b at n) ≤ n = rw (length-take n (drop at b)) (omega arith) in
         List·getD-eq-default (part b at n) 0 {n = i} (omega (arith, short)) ∙ sym (clear-at b (at + n) to e (at + i) (omega arith) u)
-
--- the same where the card stands, and past all that is kept
-abbrev Elsewhere : List ℕ → List ℕ → Type 0
-Elsewhere x b = (i : ℕ) → (i < 3) ⊎ (515 ≤ i) → 0 < i → i < length b → getD x i 0 ≡ getD b i 0
-
--- bytes that are the same there, in the state and in the two rooms are the same
-same-bytes : (x b : List ℕ) → length x ≡ length b → getD x 0 0 ≡ getD b 0 0 → ((i : ℕ) → i < 256 → getD x (3 + i) 0 ≡ getD b (3 + i) 0)
-    → ((i : ℕ) → i < 256 → getD x (259 + i) 0 ≡ getD b (259 + i) 0) → Elsewhere x b → x ≡ b
-same-bytes x b e z p q r = ext-getD 0 x b e (λ i l. at i (omega arith) (decLt i 1) (decLt i 3) (decLt i 259) (decLt i 515))
-  where
-    by : (a i : ℕ) → a ≤ i → getD x (a + (i - a)) 0 ≡ getD b (a + (i - a)) 0 → getD x i 0 ≡ getD b i 0
-    by a i l h = let m : a + (i - a) ≡ i = omega arith in subst (λ j. getD x j 0 ≡ getD b j 0) m h
-
-    at : (i : ℕ) → i < length b → Dec (i < 1) → Dec (i < 3) → Dec (i < 259) → Dec (i < 515) → getD x i 0 ≡ getD b i 0
-    at i l (yes a) c d f = let m : 0 ≡ i = omega arith in subst (λ j. getD x j 0 ≡ getD b j 0) m z
-    at i l (no a) (yes c) d f = r i (inl c) (omega arith) l
-    at i l (no a) (no c) (yes d) f = by 3 i (omega arith) (p (i - 3) (omega arith))
-    at i l (no a) (no c) (no d) (yes f) = by 259 i (omega arith) (q (i - 259) (omega arith))
-    at i l (no a) (no c) (no d) (no f) = r i (inr (omega arith)) (omega arith) l
 
 -- Calls that are given bytes: none, and one more
 
@@ -231,33 +215,36 @@ module _ (b : List ℕ) (long : 5895 ≤ length b) (ok : Bytes b) (c : List Net)
   before-long : 5895 ≤ length before
   before-long = omega (arith, length-rested older, long)
 
-  abbrev moved : List ℕ
-  moved = rooms before 3 (lastRoom before) last
+  module _ (engine : Engine) where
+    abbrev moved : List ℕ
+    moved = rooms before (markOf engine) (lastRoom before) last
 
-  move-done : Vector (inputs c) older → Vector (inputs c) last → hostMove ByFields before last .bytes ≡ moved
-  unfolding keptVector
-  move-done w u =
-      call-done ByFields before last (atRest c older) (rest-done older (part-bytes b ok 3 (inputs c)) w .1) (part-bytes b ok 259 (inputs c)) 0
-      (afterBoth c older last) (both-taken c older last u) .0
+    move-done : Vector (inputs c) older → Vector (inputs c) last → hostMove (ByEngine engine) before last .bytes ≡ moved
+    unfolding keptVector
+    move-done w u =
+        call-done (ByEngine engine) before last (atRest c older) (rest-done older (part-bytes b ok 3 (inputs c)) w .1) (part-bytes b ok 259 (inputs c))
+        (countBy engine (atRest c older)) (afterBoth c older last) (both-taken engine c older last (k .accepted) u) .0
 
-  -- a card that a vector moved: three calls left it
-  moved-left : getD b 0 0 ≡ 3 → fitting b (inputs c) (inputs c) ≡ true → Vector (inputs c) older → Vector (inputs c) last → Left b
-  unfolding bytesAfter
-  moved-left z f w u =
-      let clean = and-both (clear b (3 + inputs c) 259) (clear b (259 + inputs c) 515) f in
-      let first = part-bytes b ok 3 (inputs c) in
-      let second = part-bytes b ok 259 (inputs c) in
-      left-by b long ok (to Load card ∷ to Rest older ∷ to ByFields last ∷ [])
-      (more-given Load card (to Rest older ∷ to ByFields last ∷ []) (part-bytes b ok 515 (u16At b 1))
-      (more-given Rest older (to ByFields last ∷ []) first (more-given ByFields last [] second none-given)))
-      (ap (λ x. hostMove ByFields (hostMove Rest x older .bytes) last .bytes) (load-done .0)
-      ∙ ap (λ x. hostMove ByFields x last .bytes) (rest-done older first w .0) ∙ move-done w u
-      ∙ same-bytes moved b (length-rooms before 3 (lastRoom before) last ∙ length-rested older)
-      (rooms-state before 3 (lastRoom before) last before-long ∙ sym z)
-      (λ i l. rooms-older before 3 (lastRoom before) last before-long i l ∙ room-at before i l ∙ rooms-last loaded 2 (0 ∷ []) older loaded-long i l
-      ∙ part-padded b 3 (inputs c) 259 (clean .0) i (omega arith))
-      (λ i l. rooms-last before 3 (lastRoom before) last before-long i l ∙ part-padded b 259 (inputs c) 515 (clean .1) i (omega arith))
-      (λ i o p q. kept-at before 3 (lastRoom before) last before-long i o p (omega (arith, length-rested older, q)) ∙ rested-else older i o p q))
+    -- a card that a vector moved: three calls left it
+    moved-left : getD b 0 0 ≡ markOf engine → fitting b (inputs c) (inputs c) ≡ true → Vector (inputs c) older → Vector (inputs c) last → Left b
+    unfolding bytesAfter
+    moved-left z f w u =
+        let clean = and-both (clear b (3 + inputs c) 259) (clear b (259 + inputs c) 515) f in
+        let first = part-bytes b ok 3 (inputs c) in
+        let second = part-bytes b ok 259 (inputs c) in
+        let by = ByEngine engine in
+        let room = lastRoom before in
+        left-by b long ok (to Load card ∷ to Rest older ∷ to by last ∷ [])
+        (more-given Load card (to Rest older ∷ to by last ∷ []) (part-bytes b ok 515 (u16At b 1))
+        (more-given Rest older (to by last ∷ []) first (more-given by last [] second none-given)))
+        (ap (λ x. hostMove by (hostMove Rest x older .bytes) last .bytes) (load-done .0)
+        ∙ ap (λ x. hostMove by x last .bytes) (rest-done older first w .0) ∙ move-done w u
+        ∙ same-bytes moved b (length-rooms before (markOf engine) room last ∙ length-rested older)
+        (rooms-state before (markOf engine) room last before-long ∙ sym z)
+        (λ i l. rooms-older before (markOf engine) room last before-long i l ∙ room-at before i l ∙ rooms-last loaded 2 (0 ∷ []) older loaded-long i l
+        ∙ part-padded b 3 (inputs c) 259 (clean .0) i (omega arith))
+        (λ i l. rooms-last before (markOf engine) room last before-long i l ∙ part-padded b 259 (inputs c) 515 (clean .1) i (omega arith))
+        (λ i o p q. kept-at before (markOf engine) room last before-long i o p (omega (arith, length-rested older, q)) ∙ rested-else older i o p q))
 
 -- Bytes that no call left answer 12
 
@@ -269,7 +256,7 @@ bytes-left b long ok e = go (madeAgain b .session) (opened b ok (madeAgain b .se
     go s (keeps-none z q) = none-left b long ok q
     go s (keeps-card c k z f) = card-left b long ok c k z f
     go s (keeps-rest c k z f w) = rest-left b long ok c k z f w
-    go s (keeps-moved c k z f w u) = moved-left b long ok c k z f w u
+    go s (keeps-moved e c k z f w u) = moved-left b long ok c k e z f w u
 
 -- and of bytes that some calls left a session is made again
 pub left-made : (b : List ℕ) → Left b → (5895 ≤ length b) × Bytes b × (madeAgain b .whole ≡ true)
@@ -287,5 +274,5 @@ unleft-12 b long ok n = go (yes-or-no (madeAgain b .whole))
     go (inr e) = record {
       moves = λ how v. sym (move-broken how b v 12 long e refl);
       histories = λ words befores flags. sym (history-broken b words befores flags 12 long e refl);
-      vectors = λ how vs room. sym (vectors-broken how b vs room 12 long e refl);
+      vectors = λ engine vs room. sym (vectors-broken engine b vs room 12 long e refl);
     }

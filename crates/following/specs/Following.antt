@@ -7,10 +7,12 @@ use Rattle.lists.specs.Listed.{listed}
 use Rattle.lists.specs.Places.{part}
 use Rattle.records.specs.Written.{Bytes}
 use Rattle.card.specs.declared.Session.{Session}
+use Rattle.moves.specs.declared.Engine.{Engine}
+use Rattle.moves.specs.declared.Move.{Move}
+use Rattle.moves.specs.declared.Move.the-variants.{Vector}
+use Rattle.moves.specs.Operated.{operated}
 use Rattle.making.specs.Made.{held, madeAgain}
-use Rattle.host.specs.declared.Move.{Move}
-use Rattle.host.specs.declared.Move.the-variants.{Vector}
-use Rattle.host.specs.Calls.{packed, operated, hostMove}
+use Rattle.host.specs.Calls.{packed, hostMove}
 
 -- lent bytes that hold a session
 pub record Holding (b : List ℕ) (s : Session) : Type 0 where
@@ -40,6 +42,6 @@ unfoldable pub libraryAnswers : Session → List Call → List ℕ
 libraryAnswers s [] = []
 libraryAnswers s (c ∷ cs) = let m = operated (c .how) s (c .given) in packed (m .answer) ∷ libraryAnswers (m .session) cs
 
--- many vectors of n bytes each, a call for each
-unfoldable pub eachVector : List ℕ → ℕ → ℕ → List Call
-eachVector vs n k = listed (λ j. record { how = Vector; given = part vs (j * n) n }) k
+-- many vectors of n bytes each, a call by the engine for each
+unfoldable pub eachVector : Engine → List ℕ → ℕ → ℕ → List Call
+eachVector engine vs n k = listed (λ j. record { how = Vector engine; given = part vs (j * n) n }) k

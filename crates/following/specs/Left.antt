@@ -5,9 +5,9 @@ use Prim.Native.Nat.{ℕ, _≤_, _<_}
 use lib.ListN.{length, getD}
 use Rattle.lists.specs.Entries.{_∈_}
 use Rattle.records.specs.Written.{Bytes}
-use Rattle.host.specs.declared.Move.{Move}
+use Rattle.moves.specs.declared.Engine.{Engine}
+use Rattle.moves.specs.declared.Move.{Move}
 use Rattle.host.specs.Calls.{hostMove, hostHistory}
-use Rattle.host.specs.declared.Engine.{Engine}
 use Rattle.host.specs.Vectors.{hostVectors}
 use Rattle.following.specs.Following.{Call, bytesAfter}
 
@@ -26,4 +26,4 @@ pub record Unready (b : List ℕ) : Type 0 where
   pub moves : (how : Move) (v : List ℕ) → hostMove how b v ≡ record { answer = 12; bytes = b }
   pub histories : (words befores flags : List ℕ)
       → hostHistory b words befores flags ≡ record { answer = 12; words = words; befores = befores; flags = flags }
-  pub vectors : (how : Engine) (vs room : List ℕ) → hostVectors how b vs room ≡ record { answer = 12; bytes = b; words = room }
+  pub vectors : (engine : Engine) (vs room : List ℕ) → hostVectors engine b vs room ≡ record { answer = 12; bytes = b; words = room }

@@ -137,3 +137,9 @@ flag-cong a b f g e h =
     let k = changes-cong a b f g e h in
     let q : Bool·beq a (f 63) ≡ Bool·beq b (g 63) = ap₂ Bool·beq e (h 63 (omega arith)) in
     ap₂ (λ n x. cond (eqb n 0) 0 (cond (eqb n 1) 1 (cond x 2 3))) k q
+
+-- a net that stands still has flag 0
+pub flat-flag : (b : Bool) → flagOf b (λ t. b) ≡ 0
+unfolding flagOf changes count
+flat-flag true = refl
+flat-flag false = refl

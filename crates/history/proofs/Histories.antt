@@ -23,7 +23,7 @@ use Rattle.card.specs.declared.Session.{Session}
 use Rattle.card.specs.Session.{wordAt, beforeAt}
 use Rattle.card.proofs.Kept.{few}
 use Rattle.session.specs.Good.{Rested, Good}
-use Rattle.history.specs.Told.{Told, beforeByte, flagAt, historyOf}
+use Rattle.history.specs.Told.{Told, Roomy, beforeByte, flagAt, historyOf}
 use Rattle.history.proofs.Flags.{Hazard, flag-is, flag-cong}
 use Rattle.history.proofs.Ran.{holds, ruleValue, before-is, value-is}
 
@@ -40,10 +40,8 @@ module _ (s : Session) (words befores flags : List ℕ) where
   abbrev pub Short : Type 0
   Short = (length words < s .nets) ⊎ ((length befores < s .nets) ⊎ (length flags < s .nets))
 
-  pub record Roomy : Type 0 where
-    pub for-words : s .nets ≤ length words
-    pub for-befores : s .nets ≤ length befores
-    pub for-flags : s .nets ≤ length flags
+  abbrev Room : Type 0
+  Room = Roomy (s .nets) words befores flags
 
   -- its tests, one after another
   abbrev by-tests : Bool → Bool → Told
@@ -61,7 +59,7 @@ module _ (s : Session) (words befores flags : List ℕ) where
   short-fails (inr (inl l)) = rw (lt-leb (s .nets) (length befores) l) (and-false (leb (s .nets) (length words)))
   short-fails (inr (inr l)) = rw (lt-leb (s .nets) (length flags) l, and-false (leb (s .nets) (length befores))) (and-false (leb (s .nets) (length words)))
 
-  roomy-passes : Roomy → room-test ≡ true
+  roomy-passes : Room → room-test ≡ true
   roomy-passes l =
       and-make _ _ (le-leb (s .nets) (length words) (l .for-words)) (and-make _ _ (le-leb (s .nets) (length befores) (l .for-befores)) (le-leb (s .nets) (length flags) (l .for-flags)))
 
@@ -71,11 +69,11 @@ module _ (s : Session) (words befores flags : List ℕ) where
   pub gives-18 : s .rested ≡ true → Short → historyOf s words befores flags ≡ unwritten words befores flags (Refused NoRoom)
   gives-18 e l = by-them ∙ ap₂ by-tests e (short-fails l)
 
-  pub gives-0 : s .rested ≡ true → Roomy → historyOf s words befores flags ≡ written
+  pub gives-0 : s .rested ≡ true → Room → historyOf s words befores flags ≡ written
   gives-0 e l = by-them ∙ ap₂ by-tests e (roomy-passes l)
 
   -- slices that hold what history writes
-  pub told : s .rested ≡ true → Roomy → (ws bs fs : List ℕ) → ws ≡ written .words → bs ≡ written .befores → fs ≡ written .flags
+  pub told : s .rested ≡ true → Room → (ws bs fs : List ℕ) → ws ≡ written .words → bs ≡ written .befores → fs ≡ written .flags
       → record { answer = Done (s .nets); words = ws; befores = bs; flags = fs } ≡ historyOf s words befores flags
   told e l ws bs fs ew eb ef = (λ i. record { answer = Done (s .nets); words = ew i; befores = eb i; flags = ef i }) ∙ sym (gives-0 e l)
 
@@ -84,7 +82,7 @@ module _ (s : Session) (words befores flags : List ℕ) where
 pub data Ruling (s : Session) (words befores flags : List ℕ) : Told → Type 0 where
   not-rested : s .rested ≡ false → Ruling s words befores flags (unwritten words befores flags (Refused NotReady))
   too-short : s .rested ≡ true → Short s words befores flags → Ruling s words befores flags (unwritten words befores flags (Refused NoRoom))
-  done : s .rested ≡ true → Roomy s words befores flags → Ruling s words befores flags (written s words befores flags)
+  done : s .rested ≡ true → Roomy (s .nets) words befores flags → Ruling s words befores flags (written s words befores flags)
 
 module _ (s : Session) (words befores flags : List ℕ) where
   abbrev pub heard : Told
@@ -100,7 +98,7 @@ module _ (s : Session) (words befores flags : List ℕ) where
       short e l = rw (gives-18 s words befores flags e l) (too-short e l)
 
       fits : s .rested ≡ true → Dec (s .nets ≤ length words) → Dec (s .nets ≤ length befores) → Dec (s .nets ≤ length flags) → Ruling s words befores flags heard
-      fits e (yes a) (yes b) (yes c) = let r : Roomy s words befores flags = record { for-words = a; for-befores = b; for-flags = c } in rw (gives-0 s words befores flags e r) (done e r)
+      fits e (yes a) (yes b) (yes c) = let r : Roomy (s .nets) words befores flags = record { for-words = a; for-befores = b; for-flags = c } in rw (gives-0 s words befores flags e r) (done e r)
       fits e (yes a) (yes b) (no c) = short e (inr (inr (omega arith)))
       fits e (yes a) (no b) c = short e (inr (inl (omega arith)))
       fits e (no a) b c = short e (inl (omega arith))
@@ -114,7 +112,7 @@ module _ (s : Session) (words befores flags : List ℕ) where
   Reason k =
       cond (eqb k 12) (s .rested ≡ false)
       (cond (eqb k 18) ((s .rested ≡ true) × Short s words befores flags)
-      (cond (eqb k 0) ((s .rested ≡ true) × Roomy s words befores flags) ⊥))
+      (cond (eqb k 0) ((s .rested ≡ true) × Roomy (s .nets) words befores flags) ⊥))
 
   reason : (x : Told) → Ruling s words befores flags x → Reason (answerNumber (x .answer))
   reason x (not-rested e) = e
@@ -128,7 +126,7 @@ module _ (s : Session) (words befores flags : List ℕ) where
   pub history-18 : (number ≡ 18) ↔ ((s .rested ≡ true) × Short s words befores flags)
   history-18 = (λ q. subst Reason q (reason heard ruled), λ h. ap (λ x. answerNumber (x .answer)) (gives-18 s words befores flags (h .0) (h .1)))
 
-  pub history-0 : (number ≡ 0) ↔ ((s .rested ≡ true) × Roomy s words befores flags)
+  pub history-0 : (number ≡ 0) ↔ ((s .rested ≡ true) × Roomy (s .nets) words befores flags)
   history-0 = (λ q. subst Reason q (reason heard ruled), λ h. ap (λ x. answerNumber (x .answer)) (gives-0 s words befores flags (h .0) (h .1)))
 
   -- "Every refusal returns its number and count 0, and changes neither session nor lent memory."
@@ -169,7 +167,7 @@ module _ (s : Session) (g : Good s) (rested : s .rested ≡ true) (words befores
   abbrev run : Rested s
   run = g .rest rested .1
 
-  room : Roomy s words befores flags
+  room : Roomy (s .nets) words befores flags
   room = history-0 s words befores flags .0 ok .1
 
   listed-net : (n : ℕ) → n < s .nets → n < 256

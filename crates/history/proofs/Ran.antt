@@ -1,7 +1,7 @@
 -- A rested session's arrays hold the rule's histories: its before values and its values. Assumes nothing.
 use mathlib.Core.Path.{_≡_, ap, _∙_}
 use mathlib.Core.Bool.{Bool, true, false}
-use Prim.Native.Nat.{ℕ, _-_, _<_}
+use Prim.Native.Nat.{ℕ, _<_}
 use lib.ListN.{getD}
 use Rattle.lists.proofs.Listed.{listed-at}
 use Rattle.word.specs.Word.{bit, wordOf}

@@ -2,7 +2,7 @@
 -- Assumes nothing.
 use mathlib.Core.Bool.{cond, _&&_}
 use mathlib.Core.List.{List}
-use Prim.Native.Nat.{ℕ}
+use Prim.Native.Nat.{ℕ, _≤_}
 use lib.Dec.{leb}
 use lib.ListN.{length}
 use Rattle.lists.specs.Filled.{filled}
@@ -20,6 +20,12 @@ pub record Told : Type 0 where
   pub words : List ℕ
   pub befores : List ℕ
   pub flags : List ℕ
+
+-- three lent slices with room for n entries each
+pub record Roomy (n : ℕ) (words befores flags : List ℕ) : Type 0 where
+  pub for-words : n ≤ length words
+  pub for-befores : n ≤ length befores
+  pub for-flags : n ≤ length flags
 
 -- a net's before value as a byte, and its flag
 abbrev pub beforeByte : Session → ℕ → ℕ

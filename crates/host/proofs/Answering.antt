@@ -10,9 +10,11 @@ use Rattle.rule.specs.declared.Refusal.the-variants.{NotReady, NoRoom}
 use Rattle.rule.specs.declared.Answer.{Answer}
 use Rattle.rule.specs.declared.Answer.the-variants.{Done, Refused}
 use Rattle.history.specs.Told.{Told, historyOf}
+use Rattle.moves.specs.declared.Move.{Move}
+use Rattle.moves.specs.Operated.{operated}
+use Rattle.keeping.specs.Kept.{keptBy}
 use Rattle.making.specs.Made.{madeAgain}
-use Rattle.host.specs.declared.Move.{Move}
-use Rattle.host.specs.Calls.{packed, operated, keptBy, leftBy, hostMove, hostHistory}
+use Rattle.host.specs.Calls.{packed, leftBy, hostMove, hostHistory}
 
 module _ (how : Move) (b v : List ℕ) where
   pub left-refused : (a : Answer) (why : Refusal) (r : ℕ) → a ≡ Refused why → r ≡ packed a → record { answer = r; bytes = b } ≡ leftBy how a b v

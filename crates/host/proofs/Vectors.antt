@@ -10,31 +10,31 @@ use Rattle.rule.specs.declared.Refusal.the-variants.{NotReady, NoRoom}
 use Rattle.rule.specs.declared.Answer.{Answer}
 use Rattle.rule.specs.declared.Answer.the-variants.{Done, Refused}
 use Rattle.card.specs.declared.Session.{Session}
+use Rattle.moves.specs.declared.Engine.{Engine}
 use Rattle.making.specs.Made.{madeAgain}
-use Rattle.many.specs.Many.{manyJudged, keptMany}
-use Rattle.host.specs.declared.Engine.{Engine}
+use Rattle.many.specs.Many.{manyBy, manyJudged, keptMany}
 use Rattle.host.specs.Calls.{packed}
-use Rattle.host.specs.Vectors.{runBy, countBy, manyDone, hostVectors}
+use Rattle.host.specs.Vectors.{manyDone, hostVectors}
 
-module _ (how : Engine) (s : Session) (b vs room : List ℕ) where
-  pub done-refused : (a : Answer) (why : Refusal) (r : ℕ) → a ≡ Refused why → r ≡ packed a → record { answer = r; bytes = b; words = room } ≡ manyDone how s b vs room a
-  done-refused a why r e q = ap (λ x. record { answer = x; bytes = b; words = room }) (q ∙ ap packed e) ∙ sym (ap (manyDone how s b vs room) e)
+module _ (engine : Engine) (s : Session) (b vs room : List ℕ) where
+  pub done-refused : (a : Answer) (why : Refusal) (r : ℕ) → a ≡ Refused why → r ≡ packed a → record { answer = r; bytes = b; words = room } ≡ manyDone engine s b vs room a
+  done-refused a why r e q = ap (λ x. record { answer = x; bytes = b; words = room }) (q ∙ ap packed e) ∙ sym (ap (manyDone engine s b vs room) e)
 
-  pub done-all : (a : Answer) (k r count : ℕ) (b' room' : List ℕ) → a ≡ Done k → count ≡ countBy how s k → r ≡ packed (Done count) → b' ≡ keptMany b vs (s .inputs) k
-      → room' ≡ runBy how s vs (s .inputs) k room .words → record { answer = r; bytes = b'; words = room' } ≡ manyDone how s b vs room a
+  pub done-all : (a : Answer) (k r count : ℕ) (b' room' : List ℕ) → a ≡ Done k → count ≡ manyBy engine s vs (s .inputs) k room .count → r ≡ packed (Done count) → b' ≡ keptMany engine b vs (s .inputs) k
+      → room' ≡ manyBy engine s vs (s .inputs) k room .words → record { answer = r; bytes = b'; words = room' } ≡ manyDone engine s b vs room a
   done-all a k r count b' room' e n h p q =
-      (λ i. record { answer = (h ∙ ap (λ x. packed (Done x)) n) i; bytes = p i; words = q i }) ∙ sym (ap (manyDone how s b vs room) e)
+      (λ i. record { answer = (h ∙ ap (λ x. packed (Done x)) n) i; bytes = p i; words = q i }) ∙ sym (ap (manyDone engine s b vs room) e)
 
-module _ (how : Engine) (b vs room : List ℕ) where
-  pub vectors-short : (r : ℕ) → length b < 5895 → r ≡ packed (Refused NoRoom) → record { answer = r; bytes = b; words = room } ≡ hostVectors how b vs room
+module _ (engine : Engine) (b vs room : List ℕ) where
+  pub vectors-short : (r : ℕ) → length b < 5895 → r ≡ packed (Refused NoRoom) → record { answer = r; bytes = b; words = room } ≡ hostVectors engine b vs room
   unfolding hostVectors
   vectors-short r l q = rw (lt-ltb (length b) 5895 l) (ap (λ x. record { answer = x; bytes = b; words = room }) q)
 
-  pub vectors-broken : (r : ℕ) → 5895 ≤ length b → madeAgain b .whole ≡ false → r ≡ packed (Refused NotReady) → record { answer = r; bytes = b; words = room } ≡ hostVectors how b vs room
+  pub vectors-broken : (r : ℕ) → 5895 ≤ length b → madeAgain b .whole ≡ false → r ≡ packed (Refused NotReady) → record { answer = r; bytes = b; words = room } ≡ hostVectors engine b vs room
   unfolding hostVectors
   vectors-broken r l e q = rw (le-ltb (length b) 5895 l, e) (ap (λ x. record { answer = x; bytes = b; words = room }) q)
 
   pub vectors-done : 5895 ≤ length b → madeAgain b .whole ≡ true
-      → (let s = madeAgain b .session in manyDone how s b vs room (manyJudged s vs (length room))) ≡ hostVectors how b vs room
+      → (let s = madeAgain b .session in manyDone engine s b vs room (manyJudged s vs (length room))) ≡ hostVectors engine b vs room
   unfolding hostVectors
   vectors-done l e = rw (le-ltb (length b) 5895 l, e)

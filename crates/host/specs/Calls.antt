@@ -8,37 +8,15 @@ use Rattle.rule.specs.declared.Refusal.the-variants.{NotReady, NoRoom}
 use Rattle.rule.specs.declared.Answer.{Answer}
 use Rattle.rule.specs.declared.Answer.the-variants.{Done, Refused}
 use Rattle.rule.specs.Numbers.{answerNumber, answerCount}
-use Rattle.card.specs.declared.Session.{Session}
-use Rattle.card.specs.Load.{loadOf}
-use Rattle.session.specs.declared.Moved.{Moved}
-use Rattle.session.specs.Moves.{restOf, vectorOf}
 use Rattle.history.specs.Told.{historyOf}
-use Rattle.steps.specs.Vector.{stepsVectorOf}
-use Rattle.keeping.specs.Kept.{keptCard, keptRest, keptVector}
+use Rattle.moves.specs.declared.Move.{Move}
+use Rattle.moves.specs.Operated.{operated}
+use Rattle.keeping.specs.Kept.{keptBy}
 use Rattle.making.specs.Made.{madeAgain}
-use Rattle.host.specs.declared.Move.{Move}
-use Rattle.host.specs.declared.Move.the-variants.{Load, Rest, Vector, Steps}
 
 -- an answer as one number: the paper's number, and 256 times the count. "With 0 comes a count." No count is over 4,096 (`packed-plain`)
 unfoldable pub packed : Answer → ℕ
 packed a = answerNumber a + 256 * (answerCount a % 65536)
-
-abbrev pub loadMove : Session → List ℕ → Moved
-loadMove s bytes = let l = loadOf s bytes in record { answer = l .answer; session = l .session }
-
--- the library's own operations
-abbrev pub operated : Move → Session → List ℕ → Moved
-operated Load s v = loadMove s v
-operated Rest s v = restOf s v
-operated Vector s v = vectorOf s v
-operated Steps s v = stepsVectorOf s v
-
--- what is kept after each
-abbrev pub keptBy : Move → List ℕ → List ℕ → List ℕ
-keptBy Load b v = keptCard b v
-keptBy Rest b v = keptRest b v
-keptBy Vector b v = keptVector b v
-keptBy Steps b v = keptVector b v
 
 -- what a call answers, and the lent bytes after it
 pub record Hosted : Type 0 where

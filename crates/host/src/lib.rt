@@ -1,70 +1,19 @@
 // Load, rest, vector and history for a host program, on numbers and byte slices. Between calls the session lives in lent bytes, from which each call makes
 // it again. Every call answers the paper's number and the count: number + 256 * count.
 ghost use mathlib.Core.Path.{_≡_};
-ghost use mathlib.Core.Bool.{true};
-ghost use Prim.Native.Nat.{_*_, _≤_};
+ghost use Prim.Native.Nat.{_≤_};
 ghost use lib.ListN.{length};
-ghost use Rattle.lists.specs.Entries.{every};
-ghost use Rattle.inputs.specs.Inputs.{byteFits};
 ghost use Rattle.session.specs.Good.{Good};
+ghost use Rattle.moves.specs.declared.Engine.the-variants.{Fields, Steps};
+ghost use Rattle.moves.specs.declared.Move.the-variants.{Load, Rest, Vector};
 ghost use Rattle.many.specs.Many.{manyJudged};
-ghost use Rattle.host.specs.declared.Move.the-variants.{Load, Rest, Vector, Steps};
-ghost use Rattle.host.specs.Calls.{packed, loadMove, operated, keptBy, leftBy, hostMove, hostHistory};
-ghost use Rattle.host.specs.declared.Engine.the-variants.{Fields, Steps as BySteps};
-ghost use Rattle.host.specs.Vectors.{runBy, countBy, manyDone, hostVectors};
+ghost use Rattle.host.specs.Calls.{packed, leftBy, hostMove, hostHistory};
+ghost use Rattle.host.specs.Vectors.{manyDone, hostVectors};
 use card::Session;
+use moves::Engine;
+use moves::Move;
 use rule::Answer;
 use rule::Refusal;
-use session::Moved;
-
-// The calls that move the session.
-pub enum Move {
-    Load,
-    Rest,
-    Vector,
-    Steps,
-}
-
-// The engine of a call that runs many vectors.
-pub enum Engine {
-    Fields,
-    Steps,
-}
-
-fn keep(how: Move, b: &mut [u8], v: &[u8])
-    requires { ⌜ 5895 ≤ length (now b) ⌝ }
-    ensures { λ r. ⌜ now (b .exit) ≡ keptBy how (now (b .entry)) (now (v .entry)) ⌝ }
-{
-    match how {
-        Move::Load => keeping::keep_card(b, v),
-        Move::Rest => keeping::keep_rest(b, v),
-        Move::Vector => keeping::keep_vector(b, v),
-        Move::Steps => keeping::keep_vector(b, v),
-    }
-}
-
-fn load(s: Session, bytes: &[u8]) -> Moved
-    requires { ⌜ Good s ⌝ }
-    ensures { λ r. ⌜ r ≡ loadMove s (now (bytes .entry)) ⌝ }
-{
-    let left = card::load(s, bytes);
-    let answer = left.answer;
-    let session = left.session;
-    Moved { answer, session }
-}
-
-// The library's own operation.
-fn operate(how: Move, s: Session, v: &[u8]) -> Moved
-    requires { ⌜ Good s ⌝ }
-    ensures { λ r. ⌜ r ≡ operated how s (now (v .entry)) ⌝ }
-{
-    match how {
-        Move::Load => load(s, v),
-        Move::Rest => session::rest(s, v),
-        Move::Vector => session::vector(s, v),
-        Move::Steps => steps::vector_steps(s, v),
-    }
-}
 
 // An answer as one number.
 fn pack(answer: Answer) -> u64
@@ -83,7 +32,7 @@ fn left_by(how: Move, answer: Answer, b: &mut [u8], v: &[u8]) -> u64
     match answer {
         Answer::Refused(_) => pack(answer),
         Answer::Done(_) => {
-            keep(how, b, v);
+            keeping::keep(b, how, v);
             pack(answer)
         }
     }
@@ -100,7 +49,7 @@ fn host_move(how: Move, b: &mut [u8], v: &[u8]) -> u64
     if !made.whole {
         return pack(Answer::Refused(Refusal::NotReady));
     }
-    let left = operate(how, made.session, v);
+    let left = moves::operate(how, made.session, v);
     let answer = left.answer;
     left_by(how, answer, b, v)
 }
@@ -121,16 +70,16 @@ pub extern "C" fn krasvome_rest(session: &mut [u8], vector: &[u8]) -> u64
 
 #[no_mangle]
 pub extern "C" fn krasvome_vector(session: &mut [u8], vector: &[u8]) -> u64
-    ensures { λ r. ⌜ record { answer = r; bytes = now (session .exit) } ≡ hostMove Vector (now (session .entry)) (now (vector .entry)) ⌝ }
+    ensures { λ r. ⌜ record { answer = r; bytes = now (session .exit) } ≡ hostMove (Vector Fields) (now (session .entry)) (now (vector .entry)) ⌝ }
 {
-    host_move(Move::Vector, session, vector)
+    host_move(Move::Vector(Engine::Fields), session, vector)
 }
 
 #[no_mangle]
 pub extern "C" fn krasvome_steps(session: &mut [u8], vector: &[u8]) -> u64
-    ensures { λ r. ⌜ record { answer = r; bytes = now (session .exit) } ≡ hostMove Steps (now (session .entry)) (now (vector .entry)) ⌝ }
+    ensures { λ r. ⌜ record { answer = r; bytes = now (session .exit) } ≡ hostMove (Vector Steps) (now (session .entry)) (now (vector .entry)) ⌝ }
 {
-    host_move(Move::Steps, session, vector)
+    host_move(Move::Vector(Engine::Steps), session, vector)
 }
 
 #[no_mangle]
@@ -152,43 +101,26 @@ pub extern "C" fn krasvome_history(
     pack(history::history(made.session, words, befores, flags))
 }
 
-// Many vectors by either engine; the count that comes with 0 is handed back.
-fn run_by(how: Engine, s: Session, vectors: &[u8], k: usize, words: &mut [u64]) -> usize
-    requires { ⌜ Good s ⌝ }
-    requires { ⌜ (s .rested ≡ true) × (every byteFits (now vectors) ≡ true) ⌝ }
-    requires { ⌜ (k * s .inputs ≤ length (now vectors)) × (s .nets ≤ 256) × (k * s .nets ≤ length (now words)) ⌝ }
-    ensures { λ r. ⌜ now (words .exit) ≡ runBy how s (now (vectors .entry)) (s .inputs) k (now (words .entry)) .words ⌝ }
-    ensures { λ r. ⌜ r ≡ countBy how s k ⌝ }
-{
-    match how {
-        Engine::Fields => {
-            many::run_many(s, vectors, k, words);
-            0
-        }
-        Engine::Steps => packs::run_packs(s, vectors, k, words),
-    }
-}
-
 // Many vectors on a session that was made again.
-fn do_many(how: Engine, s: Session, b: &mut [u8], vectors: &[u8], words: &mut [u64]) -> u64
+fn do_many(engine: Engine, s: Session, b: &mut [u8], vectors: &[u8], words: &mut [u64]) -> u64
     requires { ⌜ Good s ⌝ }
     requires { ⌜ 5895 ≤ length (now b) ⌝ }
-    ensures { λ r. ⌜ record { answer = r; bytes = now (b .exit); words = now (words .exit) } ≡ manyDone how s (now (b .entry)) (now (vectors .entry)) (now (words .entry)) (manyJudged s (now (vectors .entry)) (length (now (words .entry)))) ⌝ }
+    ensures { λ r. ⌜ record { answer = r; bytes = now (b .exit); words = now (words .exit) } ≡ manyDone engine s (now (b .entry)) (now (vectors .entry)) (now (words .entry)) (manyJudged s (now (vectors .entry)) (length (now (words .entry)))) ⌝ }
 {
     let verdict = many::judge_many(s, vectors, words.len());
     match verdict {
         Answer::Refused(_) => pack(verdict),
         Answer::Done(k) => {
-            let count = run_by(how, s, vectors, k, words);
-            many::keep_many(b, vectors, s.inputs, k);
+            let count = many::run_many(engine, s, vectors, k, words);
+            many::keep_many(b, engine, vectors, s.inputs, k);
             pack(Answer::Done(count))
         }
     }
 }
 
 // A call that runs many vectors: 18, 12, and then all of them or none.
-fn host_vectors(how: Engine, session: &mut [u8], vectors: &[u8], words: &mut [u64]) -> u64
-    ensures { λ r. ⌜ record { answer = r; bytes = now (session .exit); words = now (words .exit) } ≡ hostVectors how (now (session .entry)) (now (vectors .entry)) (now (words .entry)) ⌝ }
+fn host_vectors(engine: Engine, session: &mut [u8], vectors: &[u8], words: &mut [u64]) -> u64
+    ensures { λ r. ⌜ record { answer = r; bytes = now (session .exit); words = now (words .exit) } ≡ hostVectors engine (now (session .entry)) (now (vectors .entry)) (now (words .entry)) ⌝ }
 {
     if session.len() < keeping::SESSION {
         return pack(Answer::Refused(Refusal::NoRoom));
@@ -197,7 +129,7 @@ fn host_vectors(how: Engine, session: &mut [u8], vectors: &[u8], words: &mut [u6
     if !made.whole {
         return pack(Answer::Refused(Refusal::NotReady));
     }
-    do_many(how, made.session, session, vectors, words)
+    do_many(engine, made.session, session, vectors, words)
 }
 
 #[no_mangle]
@@ -213,7 +145,7 @@ pub extern "C" fn krasvome_vectors_steps(
     vectors: &[u8],
     words: &mut [u64],
 ) -> u64
-    ensures { λ r. ⌜ record { answer = r; bytes = now (session .exit); words = now (words .exit) } ≡ hostVectors BySteps (now (session .entry)) (now (vectors .entry)) (now (words .entry)) ⌝ }
+    ensures { λ r. ⌜ record { answer = r; bytes = now (session .exit); words = now (words .exit) } ≡ hostVectors Steps (now (session .entry)) (now (vectors .entry)) (now (words .entry)) ⌝ }
 {
     host_vectors(Engine::Steps, session, vectors, words)
 }

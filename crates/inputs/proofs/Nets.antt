@@ -1,6 +1,5 @@
 -- The nets that are inputs, in their order: net m is the input of its rank, and the other way round. Assumes nothing.
 use mathlib.Core.Path.{_≡_, refl, sym, ap, subst, _∙_}
-use mathlib.Core.Bool.{cond}
 use mathlib.Core.List.{List}
 use Prim.Native.Nat.{ℕ, zero, suc, _+_, _≤_, _<_}
 use native.Mathlib.Omega.{arith}
@@ -11,7 +10,7 @@ use lib.ListN.{length, getD, set, replicate, length-set, length-replicate, getD-
 use lib.Seq.{getD-set-same, getD-set-other}
 use borrow.Author.Tests.{eq-eqb, ne-eqb}
 use Rattle.inputs.specs.Inputs.{rank, inputNets}
-use Rattle.inputs.proofs.Vectors.{rank-none, rank-input, rank-other, rank-le, rank-up, rank-below}
+use Rattle.inputs.proofs.Vectors.{rank-none, rank-input, rank-other, rank-le, rank-below}
 
 module _ (kinds : List ℕ) where
   pub nets-none : replicate 256 0 ≡ inputNets kinds 0

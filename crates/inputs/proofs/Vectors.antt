@@ -4,7 +4,6 @@ use mathlib.Core.Bool.{Bool, true, false, not}
 use mathlib.Core.List.{List}
 use Prim.Native.Nat.{ℕ, zero, suc, _+_, _-_, _≤_, _<_}
 use native.Mathlib.Omega.{arith}
-use native.Mathlib.Decide.{ℕ-discrete}
 use lib.Dec.{eqb}
 use lib.ListN.{length, getD, replicate}
 use borrow.Author.Tests.{eq-eqb, ne-eqb, le-ltb}
@@ -68,14 +67,6 @@ module _ (kinds : List ℕ) where
 
   pub rank-up : (n m : ℕ) → n ≤ m → rank kinds n ≤ rank kinds m
   rank-up n m l = let e : n + (m - n) ≡ m = omega arith in let h = rank-grows n (m - n) in rw e at h
-
-  -- inputs are left only while nets are
-  pub rank-left : (n m : ℕ) → rank kinds n < rank kinds m → n ≤ m → n < m
-  rank-left n m h l = go (ℕ-discrete n m)
-    where
-      go : Dec (n ≡ m) → n < m
-      go (yes e) = absurd (omega (arith, ap (rank kinds) e))
-      go (no e) = omega arith
 
   -- an input has a byte in every vector as long as there are inputs
   pub rank-below : (n m : ℕ) → n < m → getD kinds n 0 ≡ 1 → rank kinds n < rank kinds m

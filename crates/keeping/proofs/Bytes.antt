@@ -8,7 +8,9 @@ use Rattle.lists.specs.Places.{part, area}
 use Rattle.lists.proofs.Listed.{listed-at, listed-all}
 use Rattle.lists.proofs.Places.{area-all, part-all}
 use Rattle.records.specs.Written.{Bytes}
-use Rattle.keeping.specs.Kept.{lastRoom}
+use Rattle.moves.specs.declared.Engine.{Engine}
+use Rattle.moves.specs.declared.Engine.the-variants.{Fields, Steps}
+use Rattle.keeping.specs.Kept.{lastRoom, markOf}
 
 pub area-bytes : (b : List ℕ) (at to : ℕ) (v : List ℕ) → Bytes b → Bytes v → Bytes (area b at to v)
 area-bytes b at to v h k = area-all (λ x. x < 256) (lit< tt) b h at to v k
@@ -32,3 +34,7 @@ one-byte k l (suc i) = lit< tt
 pub zero-byte : (i : ℕ) → getD {A = ℕ} (0 ∷ []) i 0 ≡ 0
 zero-byte zero = refl
 zero-byte (suc i) = refl
+
+pub mark-byte : (engine : Engine) → markOf engine < 256
+mark-byte Fields = lit< tt
+mark-byte Steps = lit< tt

@@ -4,6 +4,10 @@ use Prim.Native.Nat.{ℕ, _+_, _/_, _%_}
 use lib.ListN.{length, getD}
 use Rattle.lists.specs.Listed.{listed}
 use Rattle.lists.specs.Places.{area}
+use Rattle.moves.specs.declared.Engine.{Engine}
+use Rattle.moves.specs.declared.Engine.the-variants.{Fields, Steps}
+use Rattle.moves.specs.declared.Move.{Move}
+use Rattle.moves.specs.declared.Move.the-variants.{Load, Rest, Vector}
 
 -- the room of the last vector
 unfoldable pub lastRoom : List ℕ → List ℕ
@@ -16,5 +20,16 @@ keptCard b card = area (area (area b 0 3 (1 ∷ length card % 256 ∷ length car
 unfoldable pub keptRest : List ℕ → List ℕ → List ℕ
 keptRest b v = area (area (area b 0 1 (2 ∷ [])) 3 259 (0 ∷ [])) 259 515 v
 
-unfoldable pub keptVector : List ℕ → List ℕ → List ℕ
-keptVector b v = area (area (area b 0 1 (3 ∷ [])) 3 259 (lastRoom b)) 259 515 v
+-- byte 0 of a session that a vector moved says by which engine
+abbrev pub markOf : Engine → ℕ
+markOf Fields = 3
+markOf Steps = 4
+
+unfoldable pub keptVector : Engine → List ℕ → List ℕ → List ℕ
+keptVector engine b v = area (area (area b 0 1 (markOf engine ∷ [])) 3 259 (lastRoom b)) 259 515 v
+
+-- what each operation leaves, given its bytes
+abbrev pub keptBy : Move → List ℕ → List ℕ → List ℕ
+keptBy Load b given = keptCard b given
+keptBy Rest b given = keptRest b given
+keptBy (Vector engine) b given = keptVector engine b given

@@ -1,6 +1,6 @@
 // A session in lent bytes: the card's own bytes and the last two vectors, and what is written there after each operation that was done.
 //
-//     byte 0          what is kept: 0 nothing, 1 a card, 2 a card at rest, 3 a card that a vector moved
+//     byte 0          what is kept: 0 nothing, 1 a card, 2 a card at rest, 3 a card that a vector moved by fields, 4 by steps
 //     bytes 1, 2      the length of the card's bytes, low byte first
 //     bytes 3 ..      room for a vector of 256 bytes: the one before the last
 //     bytes 259 ..    room for a vector of 256 bytes: the last one
@@ -11,7 +11,9 @@ ghost use mathlib.Core.Path.{_≡_};
 ghost use Prim.Native.Nat.{_≤_};
 ghost use lib.ListN.{length, getD};
 ghost use Rattle.lists.specs.Places.{clear, area};
-ghost use Rattle.keeping.specs.Kept.{lastRoom, keptCard, keptRest, keptVector};
+ghost use Rattle.keeping.specs.Kept.{lastRoom, markOf, keptCard, keptRest, keptVector, keptBy};
+use moves::Engine;
+use moves::Move;
 
 // How many bytes a session takes.
 pub const SESSION: usize = 5895;
@@ -64,7 +66,7 @@ fn last_room(b: &[u8]) -> [u8; 256]
 }
 
 // A card that was just loaded: its bytes, and no vector.
-pub fn keep_card(b: &mut [u8], card: &[u8])
+fn keep_card(b: &mut [u8], card: &[u8])
     requires { ⌜ 5895 ≤ length (now b) ⌝ }
     ensures { λ r. ⌜ now (b .exit) ≡ keptCard (now (b .entry)) (now (card .entry)) ⌝ }
 {
@@ -77,7 +79,7 @@ pub fn keep_card(b: &mut [u8], card: &[u8])
 }
 
 // A card that was just rested: the vector, and none before it.
-pub fn keep_rest(b: &mut [u8], v: &[u8])
+fn keep_rest(b: &mut [u8], v: &[u8])
     requires { ⌜ 5895 ≤ length (now b) ⌝ }
     ensures { λ r. ⌜ now (b .exit) ≡ keptRest (now (b .entry)) (now (v .entry)) ⌝ }
 {
@@ -88,14 +90,37 @@ pub fn keep_rest(b: &mut [u8], v: &[u8])
     put_area(b, 259, 515, v);
 }
 
-// A card that a vector just moved: the vector, and the last one before it.
-pub fn keep_vector(b: &mut [u8], v: &[u8])
-    requires { ⌜ 5895 ≤ length (now b) ⌝ }
-    ensures { λ r. ⌜ now (b .exit) ≡ keptVector (now (b .entry)) (now (v .entry)) ⌝ }
+// What byte 0 says of a card that a vector moved: by which engine.
+fn mark(engine: Engine) -> u8
+    ensures { λ r. ⌜ r ≡ markOf engine ⌝ }
 {
-    let state = [3u8; 1];
+    match engine {
+        Engine::Fields => 3,
+        Engine::Steps => 4,
+    }
+}
+
+// A card that a vector just moved: the vector, and the last one before it.
+pub fn keep_vector(b: &mut [u8], engine: Engine, v: &[u8])
+    requires { ⌜ 5895 ≤ length (now b) ⌝ }
+    ensures { λ r. ⌜ now (b .exit) ≡ keptVector engine (now (b .entry)) (now (v .entry)) ⌝ }
+{
+    let by = mark(engine);
+    let state = [by; 1];
     let last = last_room(b);
     put_area(b, 0, 1, &state);
     put_area(b, 3, 259, &last);
     put_area(b, 259, 515, v);
+}
+
+// What an operation that was done leaves.
+pub fn keep(b: &mut [u8], how: Move, given: &[u8])
+    requires { ⌜ 5895 ≤ length (now b) ⌝ }
+    ensures { λ r. ⌜ now (b .exit) ≡ keptBy how (now (b .entry)) (now (given .entry)) ⌝ }
+{
+    match how {
+        Move::Load => keep_card(b, given),
+        Move::Rest => keep_rest(b, given),
+        Move::Vector(engine) => keep_vector(b, engine, given),
+    }
 }

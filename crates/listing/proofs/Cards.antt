@@ -5,7 +5,7 @@ use Prim.Native.Nat.{ℕ, zero, suc, _+_, _-_, _≤_, _<_}
 use native.Mathlib.Nat.{add-zero, add-suc}
 use native.Mathlib.Omega.{arith}
 use lib.ListN.{length, getD}
-use Rattle.lists.specs.Entries.{_∈_, each, when, from}
+use Rattle.lists.specs.Entries.{each, when, from}
 use Rattle.lists.proofs.Joined.{out-from, from-more, each-append, each-ext}
 use Rattle.word.specs.Word.{bit}
 use Rattle.word.proofs.Words.{bit-word}
@@ -40,14 +40,9 @@ module _ (s : Session) (h : HasCard s) where
   few : length c ≤ 256
   few = card-fits s h .fits .few
 
-  -- The order of the gates
-
-  in-order-low : (n : ℕ) → n ∈ gateOrder c → n < 256
-  in-order-low n m = omega (arith, out-order c n m .1, few)
-
   -- The step list
 
-  net-steps : (g : ℕ) → g < 256 → timesIn (getD (s .sets) g 0) g 63 ≡ netSteps c (depth c) g
+  net-steps : (g : ℕ) → g < length c → timesIn (getD (s .sets) g 0) g 63 ≡ netSteps c (depth c) g
   unfolding timesIn netSteps
   net-steps g l =
       let x : depth c + (63 - depth c) ≡ 63 = omega (arith, card-depth s h) in
@@ -64,7 +59,7 @@ module _ (s : Session) (h : HasCard s) where
   steps-are : stepsIn (s .sets) (gatesIn (s .order) (s .gates)) ≡ stepList c
   unfolding stepsIn stepList
   steps-are =
-      ap (each (λ g. timesIn (getD (s .sets) g 0) g 63)) (order-back s h) ∙ each-ext (λ g. timesIn (getD (s .sets) g 0) g 63) (netSteps c (depth c)) (gateOrder c) (λ g m. net-steps g (in-order-low g m))
+      ap (each (λ g. timesIn (getD (s .sets) g 0) g 63)) (order-back s h) ∙ each-ext (λ g. timesIn (getD (s .sets) g 0) g 63) (netSteps c (depth c)) (gateOrder c) (λ g m. net-steps g (out-order c g m .1))
 
   -- what the list's filling asks of a card
   pub list-asked : (s .gates ≤ 256) × ((i : ℕ) → getD (s .order) i 0 < 256) × (length (stepsIn (s .sets) (gatesIn (s .order) (s .gates))) ≤ 4096)

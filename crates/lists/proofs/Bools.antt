@@ -29,9 +29,3 @@ yes-or-no false = inr refl
 
 pub not-both : (b : Bool) → b ≡ true → b ≡ false → ⊥
 not-both b p q = true≢false (sym p ∙ q)
-
--- two tests that pass together are equal
-pub same-test : (a b : Bool) → (a ≡ true → b ≡ true) → (b ≡ true → a ≡ true) → a ≡ b
-same-test true b f g = sym (f refl)
-same-test false true f g = g refl
-same-test false false f g = refl

@@ -1,6 +1,6 @@
 -- Lists joined by `each` and `when`, and `from`: what stands in them, and how long they are. Assumes nothing.
 use mathlib.Core.Path.{_≡_, refl, sym, ap, ap₂, _∙_}
-use mathlib.Core.Bool.{Bool, true, false, cond}
+use mathlib.Core.Bool.{Bool, true, false}
 use mathlib.Core.List.{List, [], _∷_, _++_, append-assoc, List·Memᴰ·head, List·Memᴰ·tail, List·Memᴰ·not-nil, List·Memᴰ·cases-cons, Memᴰ·append-left, Memᴰ·append-right, List·Memᴰ·append-cases}
 use mathlib.Core.Logic.{_⊎_, inl, inr}
 use Prim.Native.Nat.{ℕ, zero, suc, _+_, _≤_, _<_}
@@ -44,10 +44,6 @@ in-when b xs x e m = rw e m
 pub out-when : {A : Type 0} (b : Bool) (xs : List A) (x : A) → x ∈ when b xs → (b ≡ true) × (x ∈ xs)
 out-when true xs x m = (refl, m)
 out-when false xs x m = absurd (List·Memᴰ·not-nil m)
-
-pub length-when : {A : Type 0} (b : Bool) (xs : List A) → length (when b xs) ≡ cond b (length xs) 0
-length-when true xs = refl
-length-when false xs = refl
 
 -- `each`
 

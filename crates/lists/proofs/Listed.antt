@@ -122,9 +122,6 @@ module _ {A : Type 0} where
           go true e = rw (lt-ltb j (i + 1) (omega (arith, ltb-true j i e)))
           go false e = rw (le-ltb j (i + 1) (omega (arith, ltb-false j i e)))
 
-  pub upto-all : (f g : ℕ → A) (n : ℕ) → listed (upto f g n) n ≡ listed f n
-  upto-all f g n = listed-ext (upto f g n) f n (λ i b. rw (lt-ltb i n b))
-
   -- `[v; n]`
   pub listed-same : (v : A) (n : ℕ) → replicate n v ≡ listed (λ i. v) n
   listed-same v n = is-listed (λ i. v) n v (replicate n v) (length-replicate n v) (λ i b. getD-replicate n i v v b)

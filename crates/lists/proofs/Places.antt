@@ -1,18 +1,17 @@
 -- Lists by place: entries that are all 0 from one place to another, an area that was written, and a part. Assumes nothing.
-use mathlib.Core.Path.{_≡_, refl, sym, ap, ap₂, _∙_}
+use mathlib.Core.Path.{_≡_, refl, sym, ap, ap₂, subst, _∙_}
 use mathlib.Core.Bool.{Bool, true, false, cond, _&&_}
 use mathlib.Core.List.{List}
 use mathlib.Core.Logic.{_⊎_, inl, inr}
 use Prim.Native.Nat.{ℕ, suc, _+_, _-_, _*_, _≤_, _<_}
 use native.Mathlib.Nat.{add-zero, suc-mul, mul-le-mul-right}
 use native.Mathlib.Omega.{arith}
-use native.Mathlib.Decide.{decLt}
 use lib.Dec.{eqb, leb, ltb}
 use lib.ListN.{length, getD, set, take, drop, length-take, length-drop, List·getD-eq-default}
 use lib.Seq.{getD-take, getD-drop, length-take-le}
 use borrow.Author.Tests.{eqb-true, eq-eqb, lt-ltb, le-ltb, le-leb, lt-leb, ltb-true, ltb-false}
 use Rattle.lists.specs.Entries.{from}
-use Rattle.lists.specs.Listed.{listed, upto}
+use Rattle.lists.specs.Listed.{listed}
 use Rattle.lists.specs.Places.{part, clear, area}
 use Rattle.lists.proofs.Tests.{every-at, every-yes}
 use Rattle.lists.proofs.Joined.{in-from, out-from}
@@ -163,36 +162,6 @@ module _ (b : List ℕ) (at : ℕ) (v : List ℕ) where
   pub put-length : (to : ℕ) (xs : List ℕ) → xs ≡ area b at to v → length xs ≡ length b
   put-length to xs e = ap length e ∙ length-area b at to v
 
--- only so many entries of a list come to an area
-pub area-same : (b : List ℕ) (at n : ℕ) (v w : List ℕ) → ((k : ℕ) → k < n → getD v k 0 ≡ getD w k 0) → area b at (at + n) v ≡ area b at (at + n) w
-unfolding area
-area-same b at n v w h = listed-ext _ _ (length b) (λ i l. go i (decLt i at) (decLt i (at + n)))
-  where
-    go : (i : ℕ) → Dec (i < at) → Dec (i < at + n) → cond (leb at i && ltb i (at + n)) (getD v (i - at) 0) (getD b i 0) ≡ cond (leb at i && ltb i (at + n)) (getD w (i - at) 0) (getD b i 0)
-    go i (yes x) y = rw (lt-leb at i x)
-    go i (no x) (yes y) = ap (λ k. cond (leb at i && ltb i (at + n)) k (getD b i 0)) (h (i - at) (omega arith))
-    go i (no x) (no y) = rw (le-ltb i (at + n) (omega arith), le-leb at i (omega arith))
-
--- entries that are filled from the front, with an area more
-pub upto-area : (f g : ℕ → ℕ) (n a b : ℕ) (v : List ℕ) → a ≤ b → b ≤ n → ((i : ℕ) → a ≤ i → i < b → getD v (i - a) 0 ≡ f i)
-    → area (listed (upto f g a) n) a b v ≡ listed (upto f g b) n
-upto-area f g n a b v l m h = is-listed (upto f g b) n 0 (area xs a b v) (length-area xs a b v ∙ long) (λ i k. at i k (decLt i a) (decLt i b))
-  where
-    xs : List ℕ
-    xs = listed (upto f g a) n
-
-    long : length xs ≡ n
-    long = length-listed (upto f g a) n
-
-    at : (i : ℕ) → i < n → Dec (i < a) → Dec (i < b) → getD (area xs a b v) i 0 ≡ upto f g b i
-    at i k (yes x) y =
-        area-out xs a b v i (inl x) (omega (arith, long, k)) ∙ listed-at (upto f g a) n i 0 k
-        ∙ rw (lt-ltb i a x, lt-ltb i b (omega arith))
-    at i k (no x) (yes y) = area-in xs a b v i (omega (arith, long, m)) (omega arith) y ∙ h i (omega arith) y ∙ rw (lt-ltb i b y)
-    at i k (no x) (no y) =
-        area-out xs a b v i (inr (omega arith)) (omega (arith, long, k)) ∙ listed-at (upto f g a) n i 0 k
-        ∙ rw (le-ltb i a (omega arith), le-ltb i b (omega arith))
-
 -- Entries n at a time
 
 pub turn-next : (j n : ℕ) → j * n + n ≡ (j + 1) * n
@@ -203,5 +172,13 @@ turn-fits j k n l b h =
     let more : (j + 1) * n ≤ k * n = mul-le-mul-right n (omega arith) in
     omega (arith, more, turn-next j n, h)
 
-pub turn-place : (i m n j l : ℕ) → i < m → j < n → m * n ≤ l → i * n + j < l
-turn-place i m n j l a b h = omega (arith, turn-fits i m n l a h, b)
+-- the same from the place x where turn j begins: the next turn's place, that the entries are there, and which they are
+module _ (j n x : ℕ) (e : x ≡ j * n) where
+  pub place-next : x + n ≡ (j + 1) * n
+  place-next = ap (λ y. y + n) e ∙ turn-next j n
+
+  pub place-fits : (k l : ℕ) → j < k → k * n ≤ l → x + n ≤ l
+  place-fits k l b h = subst (λ y. y + n ≤ l) (sym e) (turn-fits j k n l b h)
+
+  pub place-part : (b : List ℕ) → take (x + n - x) (drop x b) ≡ part b (j * n) n
+  place-part b = ap (λ y. take (y + n - y) (drop y b)) e ∙ part-of b (j * n) n

@@ -2,7 +2,7 @@
 use mathlib.Core.Path.{_≡_, sym, ap, subst, _∙_}
 use mathlib.Core.Bool.{Bool, true, false, cond}
 use mathlib.Core.List.{List}
-use Prim.Native.Nat.{ℕ, _+_, _-_, _<_, _≤_}
+use Prim.Native.Nat.{ℕ, _+_, _<_, _≤_}
 use native.Mathlib.Omega.{arith}
 use lib.Dec.{eqb, ltb}
 use lib.ListN.{length, getD}
@@ -22,8 +22,13 @@ use Rattle.card.specs.Allowed.{Accepted}
 use Rattle.card.proofs.Verdicts.{load-taken}
 use Rattle.session.specs.Good.{Good}
 use Rattle.session.specs.declared.Moved.{Moved}
-use Rattle.session.specs.Moves.{restOf, vectorOf}
-use Rattle.session.proofs.Kept.{none-good, load-good, rest-good, vector-good}
+use Rattle.session.specs.Moves.{restOf}
+use Rattle.session.proofs.Kept.{none-good, load-good, rest-good}
+use Rattle.moves.specs.declared.Engine.{Engine}
+use Rattle.moves.specs.declared.Engine.the-variants.{Fields, Steps}
+use Rattle.moves.specs.Operated.{vectorBy}
+use Rattle.moves.proofs.Engines.{by-good as vector-good}
+use Rattle.keeping.specs.Kept.{markOf}
 use Rattle.keeping.proofs.Bytes.{part-bytes}
 use Rattle.making.specs.declared.Made.{Made}
 use Rattle.making.specs.Made.{broken, done, held, madeBy, fitting, madePlain, madeRested, madeMoved, madeCard, madeLoaded, madeAgain}
@@ -53,23 +58,24 @@ module _ (b : List ℕ) (s : Session) where
   unfolding madeRested
   rested-is e = rw e
 
-  pub moved-not : fitting b (s .inputs) (s .inputs) ≡ false → broken ≡ madeMoved b s
-  unfolding madeMoved
-  moved-not e = rw e
+  module _ (engine : Engine) where
+    pub moved-not : fitting b (s .inputs) (s .inputs) ≡ false → broken ≡ madeMoved engine b s
+    unfolding madeMoved
+    moved-not e = rw e
 
-  pub moved-refused : fitting b (s .inputs) (s .inputs) ≡ true → (r : Moved) → r ≡ restOf s (part b 3 (s .inputs))
-      → (why : Refusal) → r .answer ≡ Refused why → broken ≡ madeMoved b s
-  unfolding madeMoved
-  moved-refused e r q why w =
-      let m = madeBy (vectorOf (restOf s (part b 3 (s .inputs)) .session) (part b 259 (s .inputs))) in
-      rw e (sym (ap (λ a. done a m) (sym (ap (λ x. x .answer) q) ∙ w)))
+    pub moved-refused : fitting b (s .inputs) (s .inputs) ≡ true → (r : Moved) → r ≡ restOf s (part b 3 (s .inputs))
+        → (why : Refusal) → r .answer ≡ Refused why → broken ≡ madeMoved engine b s
+    unfolding madeMoved
+    moved-refused e r q why w =
+        let m = madeBy (vectorBy engine (restOf s (part b 3 (s .inputs)) .session) (part b 259 (s .inputs))) in
+        rw e (sym (ap (λ a. done a m) (sym (ap (λ x. x .answer) q) ∙ w)))
 
-  pub moved-is : fitting b (s .inputs) (s .inputs) ≡ true → (r : Moved) → r ≡ restOf s (part b 3 (s .inputs)) → (count : ℕ) → r .answer ≡ Done count
-      → madeBy (vectorOf (r .session) (part b 259 (s .inputs))) ≡ madeMoved b s
-  unfolding madeMoved
-  moved-is e r q count w =
-      let m = madeBy (vectorOf (restOf s (part b 3 (s .inputs)) .session) (part b 259 (s .inputs))) in
-      rw e (ap (λ x. madeBy (vectorOf (x .session) (part b 259 (s .inputs)))) q ∙ sym (ap (λ a. done a m) (sym (ap (λ x. x .answer) q) ∙ w)))
+    pub moved-is : fitting b (s .inputs) (s .inputs) ≡ true → (r : Moved) → r ≡ restOf s (part b 3 (s .inputs)) → (count : ℕ) → r .answer ≡ Done count
+        → madeBy (vectorBy engine (r .session) (part b 259 (s .inputs))) ≡ madeMoved engine b s
+    unfolding madeMoved
+    moved-is e r q count w =
+        let m = madeBy (vectorBy engine (restOf s (part b 3 (s .inputs)) .session) (part b 259 (s .inputs))) in
+        rw e (ap (λ x. madeBy (vectorBy engine (x .session) (part b 259 (s .inputs)))) q ∙ sym (ap (λ a. done a m) (sym (ap (λ x. x .answer) q) ∙ w)))
 
   pub card-1 : getD b 0 0 ≡ 1 → madePlain b s ≡ madeCard b s
   unfolding madeCard
@@ -79,13 +85,14 @@ module _ (b : List ℕ) (s : Session) where
   unfolding madeCard
   card-2 e = rw e
 
-  pub card-3 : getD b 0 0 ≡ 3 → madeMoved b s ≡ madeCard b s
+  pub card-moved : (engine : Engine) → getD b 0 0 ≡ markOf engine → madeMoved engine b s ≡ madeCard b s
   unfolding madeCard
-  card-3 e = rw e
+  card-moved Fields e = rw e
+  card-moved Steps e = rw e
 
-  pub card-other : ¬ (getD b 0 0 ≡ 1) → ¬ (getD b 0 0 ≡ 2) → ¬ (getD b 0 0 ≡ 3) → broken ≡ madeCard b s
+  pub card-other : ¬ (getD b 0 0 ≡ 1) → ¬ (getD b 0 0 ≡ 2) → ¬ (getD b 0 0 ≡ 3) → ¬ (getD b 0 0 ≡ 4) → broken ≡ madeCard b s
   unfolding madeCard
-  card-other x y z = rw (ne-eqb (getD b 0 0) 1 x, ne-eqb (getD b 0 0) 2 y, ne-eqb (getD b 0 0) 3 z)
+  card-other x y z w = rw (ne-eqb (getD b 0 0) 1 x, ne-eqb (getD b 0 0) 2 y, ne-eqb (getD b 0 0) 3 z, ne-eqb (getD b 0 0) 4 w)
 
 -- Loading again
 
@@ -135,7 +142,7 @@ by-good m g = done-good (m .answer) (held (m .session)) g
 
 pub card-good : (b : List ℕ) (s : Session) → Good s → Good (madeCard b s .session)
 unfolding madeCard madePlain madeRested madeMoved
-card-good b s g = go (eqb (getD b 0 0) 1) (eqb (getD b 0 0) 2) (eqb (getD b 0 0) 3)
+card-good b s g = go (eqb (getD b 0 0) 1) (eqb (getD b 0 0) 2) (eqb (getD b 0 0) 3) (eqb (getD b 0 0) 4)
   where
     older : List ℕ
     older = part b 3 (s .inputs)
@@ -149,17 +156,18 @@ card-good b s g = go (eqb (getD b 0 0) 1) (eqb (getD b 0 0) 2) (eqb (getD b 0 0)
     rested : Good (madeRested b s .session)
     rested = if-good (fitting b 0 (s .inputs)) (madeBy (restOf s last)) (by-good (restOf s last) (rest-good s g last))
 
-    moved : Good (madeMoved b s .session)
-    moved =
-        if-good (fitting b (s .inputs) (s .inputs)) (done (restOf s older .answer) (madeBy (vectorOf (restOf s older .session) last)))
-        (done-good (restOf s older .answer) (madeBy (vectorOf (restOf s older .session) last))
-        (by-good (vectorOf (restOf s older .session) last) (vector-good (restOf s older .session) (rest-good s g older) last)))
+    moved : (engine : Engine) → Good (madeMoved engine b s .session)
+    moved engine =
+        let m = vectorBy engine (restOf s older .session) last in
+        if-good (fitting b (s .inputs) (s .inputs)) (done (restOf s older .answer) (madeBy m))
+        (done-good (restOf s older .answer) (madeBy m) (by-good m (vector-good engine (restOf s older .session) (rest-good s g older) last)))
 
-    go : (x y z : Bool) → Good (cond x (madePlain b s) (cond y (madeRested b s) (cond z (madeMoved b s) broken)) .session)
-    go true y z = plain
-    go false true z = rested
-    go false false true = moved
-    go false false false = broken-good
+    go : (x y z w : Bool) → Good (cond x (madePlain b s) (cond y (madeRested b s) (cond z (madeMoved Fields b s) (cond w (madeMoved Steps b s) broken))) .session)
+    go true y z w = plain
+    go false true z w = rested
+    go false false true w = moved Fields
+    go false false false true = moved Steps
+    go false false false false = broken-good
 
 pub again-good : (b : List ℕ) → Bytes b → Good (madeAgain b .session)
 unfolding madeAgain madeLoaded

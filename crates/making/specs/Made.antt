@@ -12,7 +12,10 @@ use Rattle.card.specs.declared.Session.{Session}
 use Rattle.card.specs.Session.{none}
 use Rattle.card.specs.Load.{loadOf}
 use Rattle.session.specs.declared.Moved.{Moved}
-use Rattle.session.specs.Moves.{restOf, vectorOf}
+use Rattle.session.specs.Moves.{restOf}
+use Rattle.moves.specs.declared.Engine.{Engine}
+use Rattle.moves.specs.declared.Engine.the-variants.{Fields, Steps}
+use Rattle.moves.specs.Operated.{vectorBy}
 use Rattle.making.specs.declared.Made.{Made}
 
 -- bytes that no call left
@@ -42,16 +45,19 @@ madePlain b s = cond (fitting b 0 0) (held s) broken
 unfoldable pub madeRested : List ℕ → Session → Made
 madeRested b s = cond (fitting b 0 (s .inputs)) (madeBy (restOf s (part b 259 (s .inputs)))) broken
 
--- a card that the last vector moved, from a rest by the one before it: "The value at 63 is the next before value", and that is the settled one
-unfoldable pub madeMoved : List ℕ → Session → Made
-madeMoved b s =
+-- a card that the last vector moved, by an engine, from a rest by the one before it: "The value at 63 is the next before value", and that is the settled one
+unfoldable pub madeMoved : Engine → List ℕ → Session → Made
+madeMoved engine b s =
     let r = restOf s (part b 3 (s .inputs)) in
-    cond (fitting b (s .inputs) (s .inputs)) (done (r .answer) (madeBy (vectorOf (r .session) (part b 259 (s .inputs))))) broken
+    cond (fitting b (s .inputs) (s .inputs)) (done (r .answer) (madeBy (vectorBy engine (r .session) (part b 259 (s .inputs))))) broken
 
 -- by what byte 0 says
 unfoldable pub madeCard : List ℕ → Session → Made
 madeCard b s =
-    cond (eqb (getD b 0 0) 1) (madePlain b s) (cond (eqb (getD b 0 0) 2) (madeRested b s) (cond (eqb (getD b 0 0) 3) (madeMoved b s) broken))
+    cond (eqb (getD b 0 0) 1) (madePlain b s)
+    (cond (eqb (getD b 0 0) 2) (madeRested b s)
+    (cond (eqb (getD b 0 0) 3) (madeMoved Fields b s)
+    (cond (eqb (getD b 0 0) 4) (madeMoved Steps b s) broken)))
 
 unfoldable pub madeLoaded : List ℕ → ℕ → Made
 madeLoaded b len = let l = loadOf none (part b 515 len) in done (l .answer) (madeCard b (l .session))

@@ -5,6 +5,7 @@ ghost use lib.ListN.{length};
 ghost use Rattle.session.specs.Good.{Good};
 ghost use Rattle.making.specs.Made.{broken, madeBy, fitting, madePlain, madeRested, madeMoved, madeCard, madeLoaded, madeAgain};
 use card::Session;
+use moves::Engine;
 use rule::Answer;
 use session::Moved;
 
@@ -73,11 +74,11 @@ fn made_rested(s: Session, b: &[u8]) -> Made
     made_by(session::rest(s, &b[259..259 + n]))
 }
 
-// A card that a vector moved, made again.
-fn made_moved(s: Session, b: &[u8]) -> Made
+// A card that a vector moved, made again by the engine that moved it.
+fn made_moved(engine: Engine, s: Session, b: &[u8]) -> Made
     requires { ⌜ Good s × (s .inputs ≤ 256) ⌝ }
     requires { ⌜ 5895 ≤ length (now b) ⌝ }
-    ensures { λ r. ⌜ r ≡ madeMoved (now (b .entry)) s ⌝ }
+    ensures { λ r. ⌜ r ≡ madeMoved engine (now (b .entry)) s ⌝ }
 {
     let n = s.inputs;
     if !rooms_fit(b, n, n) {
@@ -88,7 +89,7 @@ fn made_moved(s: Session, b: &[u8]) -> Made
     let next = rested.session;
     match answer {
         Answer::Refused(_) => broken_session(),
-        Answer::Done(_) => made_by(session::vector(next, &b[259..259 + n])),
+        Answer::Done(_) => made_by(moves::vector_by(engine, next, &b[259..259 + n])),
     }
 }
 
@@ -106,7 +107,10 @@ fn made_card(s: Session, b: &[u8]) -> Made
         return made_rested(s, b);
     }
     if state == 3 {
-        return made_moved(s, b);
+        return made_moved(Engine::Fields, s, b);
+    }
+    if state == 4 {
+        return made_moved(Engine::Steps, s, b);
     }
     broken_session()
 }

@@ -7,8 +7,10 @@ ghost use Rattle.lists.specs.Entries.{every};
 ghost use Rattle.lists.specs.Places.{area};
 ghost use Rattle.inputs.specs.Inputs.{byteFits};
 ghost use Rattle.session.specs.Good.{Good};
-ghost use Rattle.many.specs.Many.{manyRun, manyJudged, keptAt, keptMany};
+ghost use Rattle.moves.specs.declared.Engine.the-variants.{Fields, Steps};
+ghost use Rattle.many.specs.Many.{manyBy, manyJudged, keptAt, keptMany};
 use card::Session;
+use moves::Engine;
 use rule::Answer;
 use rule::Refusal;
 
@@ -24,13 +26,13 @@ fn put_words(words: &[u64; 256], n: usize, room: &mut [u64], at: usize)
     }
 }
 
-// Vectors one after another, the first k of them, a byte an input each; the words of each history go to lent room, a word a net. Only the words change from one vector
-// to the next, so the session is not made again in between.
-pub fn run_many(s: Session, vectors: &[u8], k: usize, room: &mut [u64])
+// Vectors by fields one after another, the first k of them, a byte an input each; the words of each history go to lent room, a word a net. Only the words change
+// from one vector to the next, so the session is not made again in between.
+fn many_fields(s: Session, vectors: &[u8], k: usize, room: &mut [u64])
     requires { ⌜ Good s ⌝ }
     requires { ⌜ (s .rested ≡ true) × (every byteFits (now vectors) ≡ true) ⌝ }
     requires { ⌜ (k * s .inputs ≤ length (now vectors)) × (s .nets ≤ 256) × (k * s .nets ≤ length (now room)) ⌝ }
-    ensures { λ r. ⌜ now (room .exit) ≡ manyRun s (now (vectors .entry)) (s .inputs) k (now (room .entry)) .words ⌝ }
+    ensures { λ r. ⌜ now (room .exit) ≡ manyBy Fields s (now (vectors .entry)) (s .inputs) k (now (room .entry)) .words ⌝ }
 {
     let n = s.inputs;
     let nets = s.nets;
@@ -58,6 +60,50 @@ pub fn run_many(s: Session, vectors: &[u8], k: usize, room: &mut [u64])
     }
 }
 
+// The same by steps; what comes back is the count of the steps done for the last of them.
+fn many_steps(s: Session, vectors: &[u8], k: usize, room: &mut [u64]) -> usize
+    requires { ⌜ Good s ⌝ }
+    requires { ⌜ (k * s .inputs ≤ length (now vectors)) × (s .nets ≤ 256) × (k * s .nets ≤ length (now room)) ⌝ }
+    ensures { λ r. ⌜ now (room .exit) ≡ manyBy Steps s (now (vectors .entry)) (s .inputs) k (now (room .entry)) .words ⌝ }
+    ensures { λ r. ⌜ r ≡ manyBy Steps s (now (vectors .entry)) (s .inputs) k (now (room .entry)) .count ⌝ }
+{
+    let n = s.inputs;
+    let nets = s.nets;
+    let mut session = s;
+    let mut count: usize = 0;
+    let mut done: usize = 0;
+    let mut from: usize = 0;
+    let mut at: usize = 0;
+    while done < k {
+        let left = steps::vector_steps(session, &vectors[from..from + n]);
+        let answer = left.answer;
+        session = left.session;
+        count = rule::answer_count(answer);
+        put_words(&session.words, nets, room, at);
+        done += 1;
+        from += n;
+        at += nets;
+    }
+    count
+}
+
+// Vectors by an engine, one after another: the words of each go to lent room, and the count that comes with 0 is handed back.
+pub fn run_many(engine: Engine, s: Session, vectors: &[u8], k: usize, room: &mut [u64]) -> usize
+    requires { ⌜ Good s ⌝ }
+    requires { ⌜ (s .rested ≡ true) × (every byteFits (now vectors) ≡ true) ⌝ }
+    requires { ⌜ (k * s .inputs ≤ length (now vectors)) × (s .nets ≤ 256) × (k * s .nets ≤ length (now room)) ⌝ }
+    ensures { λ r. ⌜ now (room .exit) ≡ manyBy engine s (now (vectors .entry)) (s .inputs) k (now (room .entry)) .words ⌝ }
+    ensures { λ r. ⌜ r ≡ manyBy engine s (now (vectors .entry)) (s .inputs) k (now (room .entry)) .count ⌝ }
+{
+    match engine {
+        Engine::Fields => {
+            many_fields(s, vectors, k, room);
+            0
+        }
+        Engine::Steps => many_steps(s, vectors, k, room),
+    }
+}
+
 // Whether so many bytes are vectors for the session, and there is room for the words: 12, 10, 11, 18, or how many vectors they are.
 pub fn judge_many(s: Session, vectors: &[u8], room: usize) -> Answer
     requires { ⌜ Good s ⌝ }
@@ -82,26 +128,26 @@ pub fn judge_many(s: Session, vectors: &[u8], room: usize) -> Answer
 }
 
 // What is kept after vector j of many, of n bytes each.
-fn keep_at(b: &mut [u8], vectors: &[u8], n: usize, j: usize)
+fn keep_at(b: &mut [u8], engine: Engine, vectors: &[u8], n: usize, j: usize)
     requires { ⌜ (5895 ≤ length (now b)) × (j * n + n ≤ length (now vectors)) ⌝ }
-    ensures { λ r. ⌜ now (b .exit) ≡ keptAt (now (b .entry)) (now (vectors .entry)) n j ⌝ }
+    ensures { λ r. ⌜ now (b .exit) ≡ keptAt engine (now (b .entry)) (now (vectors .entry)) n j ⌝ }
 {
     let from = j * n;
-    keeping::keep_vector(b, &vectors[from..from + n]);
+    keeping::keep_vector(b, engine, &vectors[from..from + n]);
 }
 
 // What is kept after many vectors: the last two.
-pub fn keep_many(b: &mut [u8], vectors: &[u8], n: usize, k: usize)
+pub fn keep_many(b: &mut [u8], engine: Engine, vectors: &[u8], n: usize, k: usize)
     requires { ⌜ (5895 ≤ length (now b)) × (k * n ≤ length (now vectors)) ⌝ }
-    ensures { λ r. ⌜ now (b .exit) ≡ keptMany (now (b .entry)) (now (vectors .entry)) n k ⌝ }
+    ensures { λ r. ⌜ now (b .exit) ≡ keptMany engine (now (b .entry)) (now (vectors .entry)) n k ⌝ }
 {
     if k == 0 {
         return;
     }
     if k == 1 {
-        keep_at(b, vectors, n, 0);
+        keep_at(b, engine, vectors, n, 0);
         return;
     }
-    keep_at(b, vectors, n, k - 2);
-    keep_at(b, vectors, n, k - 1);
+    keep_at(b, engine, vectors, n, k - 2);
+    keep_at(b, engine, vectors, n, k - 1);
 }

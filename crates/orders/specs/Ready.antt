@@ -17,8 +17,7 @@ use Rattle.orders.specs.Orders.{entriesFit}
 pub record StepEntry (nets times : List ℕ) (e : ℕ) : Type 0 where
   pub number : e < 4096
   pub net : getD nets e 0 < 256
-  pub early : 0 < getD times e 0
-  pub late : getD times e 0 < 64
+  pub time : getD times e 0 < 64
 
 -- the steps of an order, as arrays of nets and times have them
 abbrev pub orderSteps : List ℕ → List ℕ → List ℕ → List Step

@@ -44,7 +44,7 @@ fn reads_done<'a>(
 ) -> bool
     requires { ⌜ Wires (now counts) (now places) n ⌝ }
     requires { ⌜ Fitting (now counts) (now places) n ⌝ }
-    requires { ⌜ (g < 256) × (0 < t) ⌝ }
+    requires { ⌜ g < 256 ⌝ }
     ensures { λ r. ⌜ r ≡ every (doneOf (now (done .entry))) (readsIn (now (counts .entry)) (now (places .entry)) (now (sets .entry)) (record { net = g; time = t })) ⌝ }
 {
     let count = wiring::wide(counts[g]);

@@ -63,23 +63,6 @@ gate-listed c n e = go (decLt n (length c))
 pub gate-not-open : (c : List Net) (n : ℕ) → isSource (netAt c n) ≡ false → ¬ (n ≡ openPin)
 gate-not-open c n e q = true≢false (sym (ap isSource (net-open c)) ∙ ap (λ m. isSource (netAt c m)) (sym q) ∙ e)
 
--- an input is a net of the card
-pub input-listed : (c : List Net) (n : ℕ) → netAt c n ≡ input → n < length c
-unfolding netAt
-input-listed c n e = go (decLt n (length c))
-  where
-    isConstant : Net → Type 0
-    isConstant input = ⊥
-    isConstant (constant k) = Unit {0}
-    isConstant (gate ty ps) = ⊥
-
-    go : Dec (n < length c) → n < length c
-    go (yes l) = l
-    go (no l) =
-        absurd
-        (subst isConstant e
-        (at-pin-all (λ p w. isConstant w) (constant openValue) (λ m. getD c m (constant false)) n tt (subst isConstant (sym (List·getD-eq-default c (constant false) (omega arith))) tt)))
-
 -- Pins
 
 pub source-pins : (w : Net) → isSource w ≡ true → pinsOf w ≡ []

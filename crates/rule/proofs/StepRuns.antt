@@ -4,7 +4,7 @@ use mathlib.Core.Path.{_≡_, refl, sym, ap, _∙_}
 use mathlib.Core.Bool.{Bool, true, false, true≢false}
 use mathlib.Core.List.{List, _∷_, _++_, map, map-map}
 use mathlib.Core.Logic.{_⊎_, inl, inr, ⊎-elim}
-use Prim.Native.Nat.{ℕ, zero, suc, _+_, _<_}
+use Prim.Native.Nat.{ℕ, zero, suc, _<_}
 use native.Mathlib.Omega.{arith}
 use native.Mathlib.Decide.{ℕ-discrete}
 use lib.Dec.{eqb}
@@ -13,8 +13,8 @@ use borrow.Author.Tests.{eq-eqb, eqb-true}
 use Rattle.lists.specs.Entries.{_∈_}
 use Rattle.lists.proofs.Bools.{and-both, and-make}
 use Rattle.lists.proofs.Tests.{map-ext, out-map}
-use Rattle.word.specs.Times.{greatest, zeroIn}
-use Rattle.word.proofs.Sets.{greatest-in, greatest-lt}
+use Rattle.word.specs.Times.{greatest, noTime, zeroIn}
+use Rattle.word.proofs.Sets.{zero-lt, zero-in}
 use Rattle.gate.specs.Gate.{gate as gateFn}
 use Rattle.rule.specs.Net.{Net, input, constant, gate, netAt, pins, isSource}
 use Rattle.rule.specs.Rule.{value, AtRest}
@@ -48,27 +48,26 @@ module _ (c : List Net) where
   unfolding stepReads readAt
   read-earlier k j s m =
       let r = out-map (readAt c (k .time)) (pins c (k .net)) j m in
-      let e : j .time ≡ greatest (zeroIn (pcSet c (r .0))) (k .time) 0 = ap (λ x. x .time) (r .2) in
-      omega (arith, greatest-lt (zeroIn (pcSet c (r .0))) (k .time) 0 (step-time k s))
+      let e : j .time ≡ greatest (zeroIn (pcSet c (r .0))) (k .time) noTime = ap (λ x. x .time) (r .2) in
+      omega (arith, zero-lt (pcSet c (r .0)) (k .time) noTime (step-time k s))
 
   -- a variable that is read is there from the start or is a step's
-  pub read-there : (t p : ℕ) → (ahead (readAt c t p) ≡ true) ⊎ IsStep c (readAt c t p)
+  pub read-there : (t p : ℕ) → 0 < t → (ahead (readAt c t p) ≡ true) ⊎ IsStep c (readAt c t p)
   unfolding readAt
-  read-there t p = go (ℕ-discrete g 0) (greatest-in (zeroIn (pcSet c p)) t 0)
+  read-there t p later = go (ℕ-discrete g 0)
     where
       g : ℕ
-      g = greatest (zeroIn (pcSet c p)) t 0
+      g = greatest (zeroIn (pcSet c p)) t noTime
 
       element : (u : ℕ) → 0 < u → zeroIn (pcSet c p) u ≡ true → pcSet c p u ≡ true
       element zero l e = absurd (omega arith)
       element (suc u) l e = e
 
-      go : Dec (g ≡ 0) → (g ≡ 0) ⊎ ((g < t) × (zeroIn (pcSet c p) g ≡ true)) → (eqb g 0 ≡ true) ⊎ IsStep c (record { net = p; time = g })
-      go (yes e) h = inl (eq-eqb g 0 e)
-      go (no e) (inl h) = absurd (e h)
-      go (no e) (inr h) =
+      go : Dec (g ≡ 0) → (eqb g 0 ≡ true) ⊎ IsStep c (record { net = p; time = g })
+      go (yes e) = inl (eq-eqb g 0 e)
+      go (no e) =
           let l : 0 < g = omega arith in
-          let x = element g l (h .1) in
+          let x = element g l (zero-in (pcSet c p) t noTime later) in
           inr (record { gated = set-of-gate c p g l x; element = x })
 
   -- a good order is ready: no step is reached before what it reads is there
@@ -80,7 +79,7 @@ module _ (c : List Net) where
       full : (k j : Step) → k ∈ ks → j ∈ stepReads c k → (ahead j ≡ true) ⊎ (j ∈ ks)
       full k j m r =
           let o = out-map (readAt c (k .time)) (pins c (k .net)) j r in
-          rw (o .2) (⊎-elim (λ e. inl e) (λ s. inr (good .all _ s)) (read-there (k .time) (o .0)))
+          rw (o .2) (⊎-elim (λ e. inl e) (λ s. inr (good .all _ s)) (read-there (k .time) (o .0) (step-time k (good .only k m))))
 
   module _ (before new : ℕ → Bool) (calm : AtRest c before) where
     -- the proper value of a variable
@@ -125,7 +124,7 @@ module _ (c : List Net) where
 
       -- and "the whole run ends with the rule's history": a net's value at t stands in the variable of its largest element not above t
       pub left-history : (n t : ℕ) → run sameStep (stepReads c) (stepFn c) s ks (readAt c (suc t) n) ≡ value c before new n t
-      left-history n t = left-all (readAt c (suc t) n) (read-there (suc t) n) ∙ read n t
+      left-history n t = left-all (readAt c (suc t) n) (read-there (suc t) n (omega arith)) ∙ read n t
         where
           read : (n t : ℕ) → proper (readAt c (suc t) n) ≡ value c before new n t
           read n t = unfold readAt in read-is c before new calm n t

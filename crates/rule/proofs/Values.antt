@@ -2,14 +2,14 @@
 use mathlib.Core.Path.{_≡_, refl, sym, ap, _∙_, subst}
 use mathlib.Core.Bool.{Bool, true, false, true≢false, false≢true}
 use mathlib.Core.List.{List, map}
-use Prim.Native.Nat.{ℕ, zero, suc, _-_}
+use Prim.Native.Nat.{ℕ, zero, suc}
 use native.Mathlib.Nat.{sub-zero}
 use Rattle.lists.specs.Entries.{_∈_}
 use Rattle.lists.proofs.Bools.{not-both}
 use Rattle.lists.proofs.Tests.{map-on}
 use Rattle.word.specs.Word.{differ, movedUp}
-use Rattle.word.specs.Times.{greatest, zeroIn}
-use Rattle.word.proofs.Sets.{greatest-zero}
+use Rattle.word.specs.Times.{greatest, noTime, zeroIn}
+use Rattle.word.proofs.Sets.{greatest-zero, greatest-zero-any}
 use Rattle.gate.specs.Gate.{gate as gateFn}
 use Rattle.rule.specs.Net.{Net, input, constant, gate, openPin, openValue, atPin, netAt, pins, pinsOf, isSource}
 use Rattle.rule.specs.Rule.{first, next, value, Settled, AtRest}
@@ -148,6 +148,6 @@ module _ (c : List Net) (before new : ℕ → Bool) where
         go false q = absurd (not-both (changedAt (before n) (v n) t) e (differ-same (v n t) (movedUp (before n) (v n) t) (still t q)))
 
     -- a variable holds from its element on: what a step reads of a pin is the pin's value one unit earlier
-    pub read-is : (n t : ℕ) → v n (greatest (zeroIn (pcSet c n)) (suc t) 0) ≡ v n t
+    pub read-is : (n t : ℕ) → v n (greatest (zeroIn (pcSet c n)) (suc t) noTime) ≡ v n t
     unfolding waveAt
-    read-is n t = ap (v n) (greatest-zero (pcSet c n) (suc t)) ∙ held timed n t
+    read-is n t = ap (v n) (greatest-zero-any (pcSet c n) t noTime ∙ greatest-zero (pcSet c n) (suc t)) ∙ held timed n t

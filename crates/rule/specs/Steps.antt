@@ -7,7 +7,7 @@ use Prim.Native.Nat.{ℕ, _<_}
 use lib.Dec.{eqb}
 use lib.ListN.{length, getD}
 use Rattle.lists.specs.Entries.{_∈_, each, when, from, Sorted, Distinct}
-use Rattle.word.specs.Times.{greatest, zeroIn}
+use Rattle.word.specs.Times.{greatest, noTime, zeroIn}
 use Rattle.gate.specs.Gate.{gate as gateFn}
 use Rattle.rule.specs.Net.{Net, input, constant, gate, netAt, pins, isSource}
 use Rattle.rule.specs.Chain.{Chain, pcSet}
@@ -31,10 +31,10 @@ pub record Joined (c : List Net) (k : Step) : Type 0 where
   pub gated : isSource (netAt c (k .net)) ≡ false
   pub chain : Chain c (k .net) (k .time)
 
--- "It reads, for each pin, the variable of the pin's largest element strictly below the step's time." Every set has the inserted 0
--- here, and here alone.
+-- "It reads, for each pin, the variable of the pin's largest element strictly below the step's time." The inserted 0 is put in
+-- here; no other definition of the rule has it.
 unfoldable pub readAt : List Net → ℕ → ℕ → Step
-readAt c t p = record { net = p; time = greatest (zeroIn (pcSet c p)) t 0 }
+readAt c t p = record { net = p; time = greatest (zeroIn (pcSet c p)) t noTime }
 
 unfoldable pub stepReads : List Net → Step → List Step
 stepReads c k = map (readAt c (k .time)) (pins c (k .net))

@@ -5,6 +5,7 @@ use mathlib.Core.List.{List}
 use Prim.Native.Nat.{ℕ}
 use native.Mathlib.Omega.{arith}
 use Rattle.lists.specs.Listed.{listed}
+use Rattle.rule.specs.Net.{Net}
 use Rattle.rule.specs.declared.Answer.the-variants.{Done}
 use Rattle.inputs.specs.Inputs.{given}
 use Rattle.records.specs.Written.{Bytes}
@@ -13,7 +14,8 @@ use Rattle.card.specs.declared.Loaded.{Loaded}
 use Rattle.card.specs.Session.{none, sessionOf, cardOf, resting}
 use Rattle.card.specs.Load.{loadOf}
 use Rattle.card.specs.Held.{HasCard}
-use Rattle.card.proofs.Kept.{none-carded}
+use Rattle.card.specs.Allowed.{Accepted}
+use Rattle.card.proofs.Kept.{none-carded, session-holds}
 use Rattle.card.proofs.Verdicts.{Ruling as LoadRuling, refuses as load-refuses, takes as load-takes, ruled as load-ruled, load-carded}
 use Rattle.session.specs.declared.Moved.{Moved}
 use Rattle.session.specs.Good.{histories, Rested, Good}
@@ -34,6 +36,11 @@ load-good old s g bytes = record { card = load-carded old s bytes (g .card); res
     go : (x : Loaded) → LoadRuling old s x → x .session .rested ≡ true → (x .session .loaded ≡ true) × Rested (x .session)
     go x (load-refuses r w) e = g .rest e
     go x (load-takes a) e = absurd (false≢true e)
+
+-- a card that load takes
+pub taken-good : (c : List Net) → Accepted c → Good (sessionOf c)
+unfolding sessionOf
+taken-good c a = record { card = λ l. session-holds c a; rest = λ e. absurd (false≢true e) }
 
 -- another rest is of the same card
 same-card : (s : Session) (rested : Bool) (before : List Bool) (words : List ℕ) → HasCard s → HasCard (resting s rested before words)
@@ -63,14 +70,14 @@ module _ (s : Session) (g : Good s) where
   pub rest-good : (v : List ℕ) → Good (restOf s v .session)
   rest-good v = go (restOf s v) (rest-ruled s v)
     where
-      go : (x : Moved) → Ruling (s .loaded) s v (restedBy s (given (s .kinds) v)) x → Good (x .session)
+      go : (x : Moved) → Ruling (s .loaded) s v 0 (restedBy s (given (s .kinds) v)) x → Good (x .session)
       go x (refuses r w) = g
       go x (takes l w) = rested-good l (given (s .kinds) v)
 
   pub vector-good : (v : List ℕ) → Good (vectorOf s v .session)
   vector-good v = go (vectorOf s v) (vector-ruled s v)
     where
-      go : (x : Moved) → Ruling (s .rested) s v (movedBy s (given (s .kinds) v)) x → Good (x .session)
+      go : (x : Moved) → Ruling (s .rested) s v 0 (movedBy s (given (s .kinds) v)) x → Good (x .session)
       go x (refuses r w) = g
       go x (takes l w) = moved-good l (given (s .kinds) v)
 
@@ -81,7 +88,7 @@ module _ (s : Session) (v : List ℕ) where
   unfolding cardOf restedBy
   rest-card = go (restOf s v) (rest-ruled s v)
     where
-      go : (x : Moved) → Ruling (s .loaded) s v (restedBy s (given (s .kinds) v)) x → cardOf (x .session) ≡ cardOf s
+      go : (x : Moved) → Ruling (s .loaded) s v 0 (restedBy s (given (s .kinds) v)) x → cardOf (x .session) ≡ cardOf s
       go x (refuses r w) = refl
       go x (takes l w) = refl
 
@@ -89,7 +96,7 @@ module _ (s : Session) (v : List ℕ) where
   unfolding cardOf movedBy
   vector-card = go (vectorOf s v) (vector-ruled s v)
     where
-      go : (x : Moved) → Ruling (s .rested) s v (movedBy s (given (s .kinds) v)) x → cardOf (x .session) ≡ cardOf s
+      go : (x : Moved) → Ruling (s .rested) s v 0 (movedBy s (given (s .kinds) v)) x → cardOf (x .session) ≡ cardOf s
       go x (refuses r w) = refl
       go x (takes l w) = refl
 
@@ -97,6 +104,6 @@ module _ (s : Session) (v : List ℕ) where
   unfolding movedBy
   vector-rests k d = go (vectorOf s v) (vector-ruled s v) d
     where
-      go : (x : Moved) → Ruling (s .rested) s v (movedBy s (given (s .kinds) v)) x → x .answer ≡ Done k → x .session .rested ≡ true
+      go : (x : Moved) → Ruling (s .rested) s v 0 (movedBy s (given (s .kinds) v)) x → x .answer ≡ Done k → x .session .rested ≡ true
       go x (refuses r w) q = let z : _≡_ {A = ℕ} 0 1 = cc in absurd (omega arith)
       go x (takes l w) q = l

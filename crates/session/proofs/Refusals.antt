@@ -81,38 +81,38 @@ module _ (s : Session) (v : List ℕ) (count : ℕ) (next : Session) where
       go true f (misfit q g) e = let h : q ≡ r = cc in (subst (Gets true (s .inputs) v) h g, refl)
       go true f (fits w) e = let z : _≡_ {A = ℕ} 0 1 = cc in absurd (omega arith)
 
--- A result with its reason, where the count is 0
+-- A result with its reason
 
-pub data Ruling (ready : Bool) (s : Session) (v : List ℕ) (next : Session) : Moved → Type 0 where
-  refuses : (r : Refusal) → Gets ready (s .inputs) v r → Ruling ready s v next (refusedMove s r)
-  takes : ready ≡ true → Vector (s .inputs) v → Ruling ready s v next (record { answer = Done 0; session = next })
+pub data Ruling (ready : Bool) (s : Session) (v : List ℕ) (count : ℕ) (next : Session) : Moved → Type 0 where
+  refuses : (r : Refusal) → Gets ready (s .inputs) v r → Ruling ready s v count next (refusedMove s r)
+  takes : ready ≡ true → Vector (s .inputs) v → Ruling ready s v count next (record { answer = Done count; session = next })
 
-module _ (s : Session) (v : List ℕ) (next : Session) where
-  ruled : (ready : Bool) → Ruling ready s v next (tested s v 0 next ready)
+module _ (s : Session) (v : List ℕ) (count : ℕ) (next : Session) where
+  pub ruled : (ready : Bool) → Ruling ready s v count next (tested s v count next ready)
   ruled false = refuses NotReady (gets-12 refl)
   ruled true = go (vectorFits (s .inputs) v) (fitting (s .inputs) v)
     where
-      go : (f : Verdict) → Fitting (s .inputs) v f → Ruling true s v next (moving s f 0 next)
+      go : (f : Verdict) → Fitting (s .inputs) v f → Ruling true s v count next (moving s f count next)
       go f (misfit r g) = refuses r g
       go f (fits w) = takes refl w
 
   module _ (ready : Bool) where
-    fits-taken : ready ≡ true → Vector (s .inputs) v → tested s v 0 next ready ≡ record { answer = Done 0; session = next }
+    fits-taken : ready ≡ true → Vector (s .inputs) v → tested s v count next ready ≡ record { answer = Done count; session = next }
     fits-taken e w = rw (e, vector-fits (s .inputs) v w)
 
-    taken-fits : (k : ℕ) → tested s v 0 next ready .answer ≡ Done k → (ready ≡ true) × Vector (s .inputs) v × (k ≡ 0)
-    taken-fits k e = go (tested s v 0 next ready) (ruled ready) e
+    taken-fits : (k : ℕ) → tested s v count next ready .answer ≡ Done k → (ready ≡ true) × Vector (s .inputs) v × (k ≡ count)
+    taken-fits k e = go (tested s v count next ready) (ruled ready) e
       where
-        go : (x : Moved) → Ruling ready s v next x → x .answer ≡ Done k → (ready ≡ true) × Vector (s .inputs) v × (k ≡ 0)
+        go : (x : Moved) → Ruling ready s v count next x → x .answer ≡ Done k → (ready ≡ true) × Vector (s .inputs) v × (k ≡ count)
         go x (refuses q g) e = let z : _≡_ {A = ℕ} 0 1 = cc in absurd (omega arith)
-        go x (takes l w) e = let h : _≡_ {A = ℕ} 0 k = cc in (l, w, sym h)
+        go x (takes l w) e = let h : count ≡ k = cc in (l, w, sym h)
 
 -- Rest: 12 (card only), 10, 11
 
 module _ (s : Session) (v : List ℕ) where
-  pub rest-ruled : Ruling (s .loaded) s v (restedBy s (given (s .kinds) v)) (restOf s v)
+  pub rest-ruled : Ruling (s .loaded) s v 0 (restedBy s (given (s .kinds) v)) (restOf s v)
   unfolding restOf
-  rest-ruled = ruled s v (restedBy s (given (s .kinds) v)) (s .loaded)
+  rest-ruled = ruled s v 0 (restedBy s (given (s .kinds) v)) (s .loaded)
 
   pub rest-refuses : (r : Refusal) → Gets (s .loaded) (s .inputs) v r → restOf s v ≡ refusedMove s r
   unfolding restOf
@@ -124,17 +124,17 @@ module _ (s : Session) (v : List ℕ) where
 
   pub rest-takes : s .loaded ≡ true → Vector (s .inputs) v → restOf s v ≡ record { answer = Done 0; session = restedBy s (given (s .kinds) v) }
   unfolding restOf
-  rest-takes e w = fits-taken s v (restedBy s (given (s .kinds) v)) (s .loaded) e w
+  rest-takes e w = fits-taken s v 0 (restedBy s (given (s .kinds) v)) (s .loaded) e w
 
   pub rest-taken : (k : ℕ) → restOf s v .answer ≡ Done k → (s .loaded ≡ true) × Vector (s .inputs) v × (k ≡ 0)
   unfolding restOf
-  rest-taken k e = taken-fits s v (restedBy s (given (s .kinds) v)) (s .loaded) k e
+  rest-taken k e = taken-fits s v 0 (restedBy s (given (s .kinds) v)) (s .loaded) k e
 
   -- Vector: 12, 10, 11
 
-  pub vector-ruled : Ruling (s .rested) s v (movedBy s (given (s .kinds) v)) (vectorOf s v)
+  pub vector-ruled : Ruling (s .rested) s v 0 (movedBy s (given (s .kinds) v)) (vectorOf s v)
   unfolding vectorOf
-  vector-ruled = ruled s v (movedBy s (given (s .kinds) v)) (s .rested)
+  vector-ruled = ruled s v 0 (movedBy s (given (s .kinds) v)) (s .rested)
 
   pub vector-refuses : (r : Refusal) → Gets (s .rested) (s .inputs) v r → vectorOf s v ≡ refusedMove s r
   unfolding vectorOf
@@ -146,8 +146,8 @@ module _ (s : Session) (v : List ℕ) where
 
   pub vector-takes : s .rested ≡ true → Vector (s .inputs) v → vectorOf s v ≡ record { answer = Done 0; session = movedBy s (given (s .kinds) v) }
   unfolding vectorOf
-  vector-takes e w = fits-taken s v (movedBy s (given (s .kinds) v)) (s .rested) e w
+  vector-takes e w = fits-taken s v 0 (movedBy s (given (s .kinds) v)) (s .rested) e w
 
   pub vector-taken : (k : ℕ) → vectorOf s v .answer ≡ Done k → (s .rested ≡ true) × Vector (s .inputs) v × (k ≡ 0)
   unfolding vectorOf
-  vector-taken k e = taken-fits s v (movedBy s (given (s .kinds) v)) (s .rested) k e
+  vector-taken k e = taken-fits s v 0 (movedBy s (given (s .kinds) v)) (s .rested) k e

@@ -83,7 +83,7 @@ module _ {c : List Net} {inputs : ℕ} {state : ℕ → Bool} {t : Session} (at 
 
 -- any list of vectors
 
-after-stands : {c : List Net} {inputs : ℕ} {state : ℕ → Bool} {t : Session} → Stands c inputs state t → (vs : List (List ℕ)) → ((v : List ℕ) → v ∈ vs → Vector inputs v)
+pub after-stands : {c : List Net} {inputs : ℕ} {state : ℕ → Bool} {t : Session} → Stands c inputs state t → (vs : List (List ℕ)) → ((v : List ℕ) → v ∈ vs → Vector inputs v)
     → Stands c inputs (stateAfter c state vs) (after t vs)
 unfolding after stateAfter
 after-stands at [] fits = at
@@ -101,7 +101,7 @@ module _ (s : Session) (g : Good s) (loaded : s .loaded ≡ true) (u : List ℕ)
   c = cardOf s
 
   module _ (start : ℕ → Bool) (r : Rest c (givenTo c u) start) where
-    rest-stands : Stands c (s .inputs) start (restOf s u .session)
+    pub rest-stands : Stands c (s .inputs) start (restOf s u .session)
     unfolding ends
     rest-stands =
         let h = g .card loaded in

@@ -49,7 +49,7 @@ three-inputs = refl
 
 pub example-load : loadOf none exampleBytes ≡ taken exampleCard
 unfolding loadOf judged
-example-load = ap (loadMeant none) example-read ∙ rw three-inputs (ap (concluded none exampleCard (length exampleCard)) verdict)
+example-load = ap (loadMeant none) example-read ∙ rw three-inputs (ap (concluded none (sessionOf exampleCard) (length exampleCard)) verdict)
 
 card-loaded : (exampleLoaded .loaded ≡ true) × (exampleLoaded .inputs ≡ 3) × (exampleLoaded .gates ≡ 2)
 unfolding exampleLoaded sessionOf openPin atPin netAt longest level depth gateOrder

@@ -2,7 +2,7 @@
 ghost use mathlib.Core.Path.{_≡_};
 ghost use mathlib.Core.Bool.{true};
 ghost use Prim.Native.Nat.{ℕ, _+_, _*_, _<_, _≤_};
-ghost use lib.ListN.{length, getD};
+ghost use lib.ListN.{getD};
 ghost use Rattle.lists.specs.Entries.{each, from};
 ghost use Rattle.word.specs.Word.{val};
 ghost use Rattle.rule.specs.Level.{depth as depthOf};

@@ -13,9 +13,9 @@ use Rattle.lists.specs.Entries.{_∈_, Number}
 use Rattle.lists.specs.Listed.{listed}
 use Rattle.lists.proofs.Listed.{listed-ext}
 use Rattle.word.specs.Word.{bit, wordOf}
-use Rattle.word.specs.Times.{greatest, zeroIn}
+use Rattle.word.specs.Times.{greatest, noTime, zeroIn}
 use Rattle.word.proofs.Words.{word-ext}
-use Rattle.word.proofs.Sets.{greatest-lt}
+use Rattle.word.proofs.Sets.{zero-lt}
 use Rattle.rule.specs.Net.{Net}
 use Rattle.rule.specs.Chain.{pcSet}
 use Rattle.rule.specs.Rule.{value}
@@ -96,12 +96,12 @@ module _ (s : Session) (good : Good s) (rested : s .rested ≡ true) (new : ℕ 
         ∙ left-same (take m ks) (λ j q. order .only j (take-in m ks j q)) k (inl (low .0), low .2)
         ∙ left-by-first c (ends s) new (ends-calm s card calm) start (start-ahead s card calm new) ks order m k i
 
-    history-is : (n t : ℕ) → n < 256 → t < 64 → bit (getD (ranAlong s new ks .words) n 0) (greatest (zeroIn (bit (getD (s .sets) n 0))) (t + 1) 0) ≡ value c (ends s) new n t
+    history-is : (n t : ℕ) → n < 256 → t < 64 → bit (getD (ranAlong s new ks .words) n 0) (greatest (zeroIn (bit (getD (s .sets) n 0))) (t + 1) noTime) ≡ value c (ends s) new n t
     unfolding readAt
     history-is n t l b =
-        let u = greatest-lt (zeroIn (pcSet c n)) (suc t) 0 (omega arith) in
-        ap (bit (getD (ranAlong s new ks .words) n 0)) (set-same s card n (t + 1) l (omega arith) ∙ ap (λ d. greatest (zeroIn (pcSet c n)) d 0) (add-one t))
-        ∙ sym (var-net (ranAlong s new ks .words) n (greatest (zeroIn (pcSet c n)) (suc t) 0) l)
+        let u = zero-lt (pcSet c n) (suc t) noTime (omega arith) in
+        ap (bit (getD (ranAlong s new ks .words) n 0)) (set-same s card n (t + 1) l (omega arith) ∙ ap (λ d. greatest (zeroIn (pcSet c n)) d noTime) (add-one t))
+        ∙ sym (var-net (ranAlong s new ks .words) n (greatest (zeroIn (pcSet c n)) (suc t) noTime) l)
         ∙ left-same ks (order .only) (readAt c (suc t) n) (inl l, omega arith)
         ∙ left-history c (ends s) new (ends-calm s card calm) start (start-ahead s card calm new) ks order n t
 

@@ -10,13 +10,17 @@ use Rattle.inputs.specs.Inputs.{given}
 use Rattle.card.specs.declared.Session.{Session}
 use Rattle.card.specs.Session.{cardOf}
 use Rattle.session.specs.Moves.{refusedMove}
-use Rattle.session.proofs.Refusals.{gets-refused, refused-gets}
+use Rattle.session.proofs.Refusals.{gets-refused, refused-gets, Ruling, ruled}
 use Rattle.steps.specs.Runs.{Ran}
 use Rattle.steps.specs.Vector.{ranAlong, ranSession, stepsVectorOf}
 
 module _ (s : Session) (v : List ℕ) where
   abbrev run : Ran
   run = ranAlong s (given (s .kinds) v) (stepList (cardOf s))
+
+  pub steps-ruled : Ruling (s .rested) s v (run .count) (ranSession s run) (stepsVectorOf s v)
+  unfolding stepsVectorOf
+  steps-ruled = ruled s v (run .count) (ranSession s run) (s .rested)
 
   pub steps-refuses : (r : Refusal) → Gets (s .rested) (s .inputs) v r → stepsVectorOf s v ≡ refusedMove s r
   unfolding stepsVectorOf

@@ -19,7 +19,7 @@ use Rattle.steps.specs.Runs.{Ran, ranFrom, ran, Doable}
 
 -- what a run needs of step i
 pub doable-at : (types counts : List ℕ) (f : ℕ → Step) (n i g t : ℕ) → Doable types counts (listed f n) → i < n → g ≡ f i .net → t ≡ f i .time
-    → Gates types counts g × (0 < t) × (t < 64)
+    → Gates types counts g × (t < 64)
 doable-at types counts f n i g t h l eg et = rw (eg, et) (h (f i) (in-listed f n i l))
 
 module _ (types counts places sets : List ℕ) where
@@ -57,4 +57,4 @@ module _ (types counts places sets : List ℕ) where
 
 -- the steps of a card may be done
 pub steps-doable : (s : Session) (h : HasCard s) (ks : List Step) → ((k : Step) → k ∈ ks → IsStep (cardOf s) k) → Doable (s .types) (s .counts) ks
-steps-doable s h ks all k m = let i = all k m in let l = step-low s h k i in (gate-fits s h (k .net) (i .gated), l .1, l .2)
+steps-doable s h ks all k m = let i = all k m in let l = step-low s h k i in (gate-fits s h (k .net) (i .gated), l .2)

@@ -6,29 +6,30 @@ use mathlib.Core.List.{List, [], _∷_, map, List·Memᴰ·head, List·Memᴰ·t
 use mathlib.Core.Logic.{_⊎_, inl, inr, ⊎-elim}
 use Prim.Native.Nat.{ℕ, zero, suc, _+_, _≤_, _<_}
 use native.Mathlib.Omega.{arith}
+use native.Mathlib.Decide.{decLt}
 use lib.Dec.{lit<}
-use lib.ListN.{getD}
+use lib.ListN.{length, getD}
 use borrow.Author.Tests.{ne-eqb}
 use Rattle.lists.specs.Entries.{_∈_}
 use Rattle.lists.proofs.Tests.{map-on, out-map}
 use Rattle.lists.proofs.Listed.{listed-at}
 use Rattle.word.specs.Word.{bit, wordOf}
-use Rattle.word.specs.Times.{greatest, zeroIn}
-use Rattle.word.proofs.Bits.{bit-high}
+use Rattle.word.specs.Times.{greatest, noTime, zeroIn}
+use Rattle.word.proofs.Bits.{bit-none, bit-high}
 use Rattle.word.proofs.Words.{bit-word}
-use Rattle.word.proofs.Sets.{greatest-cong, greatest-lt}
+use Rattle.word.proofs.Sets.{greatest-cong, zero-lt}
 use Rattle.gate.specs.Gate.{gate as gateFn}
 use Rattle.rule.specs.Net.{Net, input, constant, gate, openPin, openValue, atPin, netAt, pins, isSource}
 use Rattle.rule.specs.Chain.{pcSet}
 use Rattle.rule.specs.Run.{made, step, run}
 use Rattle.rule.specs.Steps.{Step, sameStep, IsStep, readAt, stepReads, stepFn}
-use Rattle.rule.proofs.Nets.{at-open, at-net, not-open, net-open}
+use Rattle.rule.proofs.Nets.{at-open, at-net, not-open, net-open, past-source}
 use Rattle.rule.proofs.Chains.{source-set}
 use Rattle.wiring.specs.Layout.{typeOf}
 use Rattle.card.specs.declared.Session.{Session}
 use Rattle.card.specs.Session.{cardOf}
 use Rattle.card.specs.Held.{HasCard}
-use Rattle.card.proofs.Kept.{card-fits, card-pins, card-sets}
+use Rattle.card.proofs.Kept.{card-fits, card-pins, card-sets, past-sets}
 use Rattle.session.proofs.Held.{gate-type}
 use Rattle.variables.specs.Variables.{heldIn, varsOf, wordsOf, readIn, readsIn, fnIn, stepIn}
 use Rattle.variables.proofs.Stores.{var-net}
@@ -38,10 +39,6 @@ use Rattle.steps.specs.Runs.{Ran, ranFrom}
 -- a variable that the words hold, or an open pin's
 abbrev pub Kept : Step → Type 0
 Kept j = ((j .net < 256) ⊎ (j .net ≡ openPin)) × (j .time < 64)
-
-zero-in-same : (f g : ℕ → Bool) (u : ℕ) → f u ≡ g u → zeroIn f u ≡ zeroIn g u
-zero-in-same f g zero e = refl
-zero-in-same f g (suc u) e = e
 
 open-var : (words : List ℕ) (t : ℕ) → varsOf words (record { net = openPin; time = t }) ≡ openValue
 unfolding heldIn
@@ -79,14 +76,22 @@ module _ (s : Session) (h : HasCard s) where
   named : (n p : ℕ) → p ∈ pins c n → (p < 256) ⊎ (p ≡ openPin)
   named n p m = let few = card-fits s h .fits .few in ⊎-elim (λ l. inl (omega arith)) inr (h .accepted .named n p m)
 
-  -- the words have the PC-sets
-  pub set-same : (n t : ℕ) → n < 256 → t ≤ 64 → greatest (zeroIn (bit (getD (s .sets) n 0))) t 0 ≡ greatest (zeroIn (pcSet c n)) t 0
-  set-same n t l b =
-      greatest-cong (zeroIn (bit (getD (s .sets) n 0))) (zeroIn (pcSet c n)) t 0
-      (λ u m. zero-in-same (bit (getD (s .sets) n 0)) (pcSet c n) u (ap (λ w. bit w u) (card-sets s h n l) ∙ bit-word 64 (pcSet c n) u (omega arith)))
+  -- the words have the PC-sets, with 0 inserted: past the card there is nothing else
+  set-in : (n u : ℕ) → n < 256 → u < 64 → zeroIn (bit (getD (s .sets) n 0)) u ≡ zeroIn (pcSet c n) u
+  set-in n zero b l = refl
+  set-in n (suc u) b l = go (decLt n (length c))
+    where
+      go : Dec (n < length c) → bit (getD (s .sets) n 0) (suc u) ≡ pcSet c n (suc u)
+      go (yes q) = ap (λ w. bit w (suc u)) (card-sets s h n q) ∙ bit-word 64 (pcSet c n) (suc u) l
+      go (no q) = ap (λ w. bit w (suc u)) (past-sets s h n b (omega arith)) ∙ bit-none (suc u) ∙ sym (source-set c n u (past-source c n (omega arith)))
 
-  open-set : (t : ℕ) → greatest (zeroIn (bit 1)) t 0 ≡ greatest (zeroIn (pcSet c openPin)) t 0
-  open-set t = greatest-cong (zeroIn (bit 1)) (zeroIn (pcSet c openPin)) t 0 (λ u m. at u)
+  pub set-same : (n t : ℕ) → n < 256 → t ≤ 64 → greatest (zeroIn (bit (getD (s .sets) n 0))) t noTime ≡ greatest (zeroIn (pcSet c n)) t noTime
+  set-same n t l b =
+      greatest-cong (zeroIn (bit (getD (s .sets) n 0))) (zeroIn (pcSet c n)) t noTime
+      (λ u m. set-in n u l (omega arith))
+
+  open-set : (t : ℕ) → greatest (zeroIn (bit 1)) t noTime ≡ greatest (zeroIn (pcSet c openPin)) t noTime
+  open-set t = greatest-cong (zeroIn (bit 1)) (zeroIn (pcSet c openPin)) t noTime (λ u m. at u)
     where
       at : (u : ℕ) → zeroIn (bit 1) u ≡ zeroIn (pcSet c openPin) u
       at zero = refl
@@ -95,13 +100,13 @@ module _ (s : Session) (h : HasCard s) where
   read-same : (t p : ℕ) → t ≤ 64 → (p < 256) ⊎ (p ≡ openPin) → readIn (s .sets) t p ≡ readAt c t p
   unfolding readIn readAt
   read-same t p b (inl l) =
-      ap (λ w. record { net = p; time = greatest (zeroIn (bit w)) t 0 }) (at-net 1 (λ n. getD (s .sets) n 0) p (not-open p (omega arith)))
+      ap (λ w. record { net = p; time = greatest (zeroIn (bit w)) t noTime }) (at-net 1 (λ n. getD (s .sets) n 0) p (not-open p (omega arith)))
       ∙ ap (λ u. record { net = p; time = u }) (set-same p t l b)
   read-same t p b (inr e) =
-      ap (λ q. record { net = q; time = greatest (zeroIn (bit (atPin 1 (λ n. getD (s .sets) n 0) q))) t 0 }) e
-      ∙ ap (λ w. record { net = openPin; time = greatest (zeroIn (bit w)) t 0 }) (at-open 1 (λ n. getD (s .sets) n 0))
+      ap (λ q. record { net = q; time = greatest (zeroIn (bit (atPin 1 (λ n. getD (s .sets) n 0) q))) t noTime }) e
+      ∙ ap (λ w. record { net = openPin; time = greatest (zeroIn (bit w)) t noTime }) (at-open 1 (λ n. getD (s .sets) n 0))
       ∙ ap (λ u. record { net = openPin; time = u }) (open-set t)
-      ∙ ap (λ q. record { net = q; time = greatest (zeroIn (pcSet c q)) t 0 }) (sym e)
+      ∙ ap (λ q. record { net = q; time = greatest (zeroIn (pcSet c q)) t noTime }) (sym e)
 
   module _ (k : Step) (i : IsStep c k) where
     pub reads-same : reads k ≡ stepReads c k
@@ -125,8 +130,8 @@ module _ (s : Session) (h : HasCard s) where
         let r = out-map (readAt c (k .time)) (pins c (k .net)) j m in
         let low = step-low s h k i in
         let en : j .net ≡ r .0 = ap (λ x. x .net) (r .2) in
-        let et : j .time ≡ greatest (zeroIn (pcSet c (r .0))) (k .time) 0 = ap (λ x. x .time) (r .2) in
-        (subst (λ n. (n < 256) ⊎ (n ≡ openPin)) (sym en) (named (k .net) (r .0) (r .1)), omega (arith, greatest-lt (zeroIn (pcSet c (r .0))) (k .time) 0 (low .1), low .2))
+        let et : j .time ≡ greatest (zeroIn (pcSet c (r .0))) (k .time) noTime = ap (λ x. x .time) (r .2) in
+        (subst (λ n. (n < 256) ⊎ (n ≡ openPin)) (sym en) (named (k .net) (r .0) (r .1)), omega (arith, zero-lt (pcSet c (r .0)) (k .time) noTime (low .1), low .2))
 
     module _ (words : List ℕ) (f : Step → Bool) (same : (j : Step) → Kept j → varsOf words j ≡ f j) where
       pub made-same : made sameStep reads fn (varsOf words) k ≡ made sameStep (stepReads c) (stepFn c) f k

@@ -23,7 +23,7 @@ ran types counts places sets words ks = ranFrom types counts places sets (record
 
 -- what a run of steps needs of them: each is of a gate, at a time of the words
 abbrev pub Doable : List ℕ → List ℕ → List Step → Type 0
-Doable types counts ks = (k : Step) → k ∈ ks → Gates types counts (k .net) × (0 < k .time) × (k .time < 64)
+Doable types counts ks = (k : Step) → k ∈ ks → Gates types counts (k .net) × (k .time < 64)
 
 -- the first n entries of an order of step numbers
 abbrev pub ordered : List ℕ → List ℕ → List ℕ → ℕ → List Step

@@ -9,7 +9,7 @@ use native.Mathlib.Nat.{pow-suc}
 use native.Mathlib.Numerals.{add-one}
 use lib.Dec.{eqb, ltb}
 use lib.ListN.{length, getD, take, drop, set, length-append, drop-of-length-le}
-use lib.Seq.{sets, sets-eq, take-suc, take-at, drop-cons}
+use lib.Seq.{sets, take-suc, drop-cons}
 use borrow.Author.Tests.{eq-eqb, ne-eqb, lt-ltb, le-ltb}
 use Rattle.text.specs.Text.{digit, digitsIn, decimal, sameText, Put}
 
@@ -36,10 +36,6 @@ put-same {a = a} {b = b} {i = i} {j = j} e p = subst (λ s. Put s a i b j) e p
 pub put-more : (word : List ℕ) (k : ℕ) {a b c : List ℕ} {i j e : ℕ} → k < length word → Put (take k word) a i b j → Put (getD word k 0 ∷ []) b j c e
     → Put (take (k + 1) word) a i c e
 put-more word k l p q = put-same (sym (take-suc word k 0 l) ∙ ap (λ n. take n word) (sym (add-one k))) (put-then p q)
-
--- a text at the front of a page is read there
-pub put-front : {s a b : List ℕ} {j : ℕ} → length s ≤ length a → Put s a 0 b j → take j b ≡ s
-put-front {s} {a} {b} {j} l p = ap (take j) (p .page-is ∙ sets-eq s a 0 (omega arith)) ∙ take-at s _ j (omega (arith, p .end-is))
 
 -- A number's digits
 

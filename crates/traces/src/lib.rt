@@ -6,7 +6,6 @@ ghost use Prim.Native.Nat.{_+_, _-_, _<_, _≤_};
 ghost use lib.ListN.{length};
 ghost use lib.Seq.{sets};
 ghost use Rattle.rule.specs.Net.{Net, pins};
-ghost use Rattle.rule.specs.Flag.{changes};
 ghost use Rattle.rule.specs.Cause.{causes};
 ghost use Rattle.wiring.specs.Layout.{pinsAt};
 ghost use Rattle.session.specs.Good.{Good};

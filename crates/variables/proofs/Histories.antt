@@ -11,39 +11,39 @@ use lib.Dec.{ltb, lit<}
 use lib.Pow.{pow-pos}
 use borrow.Author.Tests.{lt-ltb, le-ltb}
 use Rattle.word.specs.Word.{bit}
-use Rattle.word.specs.Times.{greatest, zeroIn}
+use Rattle.word.specs.Times.{greatest, noTime, zeroIn}
 use Rattle.word.proofs.Bits.{bit-and, bit-or, bit-not, bit-shl, bit-with-zero}
 use Rattle.word.proofs.Words.{is-word}
-use Rattle.word.proofs.Sets.{greatest-is, greatest-ge, greatest-lt}
+use Rattle.word.proofs.Sets.{greatest-is, greatest-ge, zero-lt, zero-in}
 use Rattle.variables.specs.Variables.{historyOf}
 
 -- The largest element not above a time, of a set with 0 inserted
 
 module _ (f : ℕ → Bool) where
   abbrev last : ℕ → ℕ
-  last t = greatest (zeroIn f) (t + 1) 0
+  last t = greatest (zeroIn f) (t + 1) noTime
 
   last-in : (t : ℕ) → zeroIn f (last t) ≡ true
-  last-in t = greatest-ge (zeroIn f) (t + 1) 0 0 (omega arith) refl .2
+  last-in t = zero-in f (t + 1) noTime (omega arith)
 
   -- no element lies between it and the time
   past : (t u : ℕ) → last t < u → u ≤ t → zeroIn f u ≡ false
   past t u l m = go (zeroIn f u) refl
     where
       go : (b : Bool) → zeroIn f u ≡ b → zeroIn f u ≡ false
-      go true e = absurd (omega (arith, greatest-ge (zeroIn f) (t + 1) 0 u (omega arith) e .0))
+      go true e = absurd (omega (arith, greatest-ge (zeroIn f) (t + 1) noTime u (omega arith) e .0))
       go false e = e
 
   -- it is that of any time between
   last-same : (t u : ℕ) → last t ≤ u → u ≤ t → last u ≡ last t
-  last-same t u l m = greatest-is (zeroIn f) (u + 1) 0 (last t) (omega arith) (last-in t) (λ s a b. past t s a (omega arith))
+  last-same t u l m = greatest-is (zeroIn f) (u + 1) noTime (last t) (omega arith) (last-in t) (λ s a b. past t s a (omega arith))
 
   last-le : (t : ℕ) → last t ≤ t
-  last-le t = omega (arith, greatest-lt (zeroIn f) (t + 1) 0 (omega arith))
+  last-le t = omega (arith, zero-lt f (t + 1) noTime (omega arith))
 
   -- an element is its own
   last-own : (t : ℕ) → zeroIn f t ≡ true → last t ≡ t
-  last-own t e = greatest-is (zeroIn f) (t + 1) 0 t (omega arith) e (λ s a b. absurd (omega arith))
+  last-own t e = greatest-is (zeroIn f) (t + 1) noTime t (omega arith) e (λ s a b. absurd (omega arith))
 
   near-own : (t : ℕ) → zeroIn f t ≡ ltb t (last t + 1)
   near-own t = go (decLt t (last t + 1))

@@ -3,14 +3,14 @@ use mathlib.Core.Path.{_≡_, sym, ap, ap₂, _∙_}
 use mathlib.Core.Bool.{Bool}
 use mathlib.Core.List.{List, map}
 use mathlib.Core.Logic.{_⊎_, inl, inr}
-use Prim.Native.Nat.{ℕ, zero, suc, _+_, _*_, _<_}
+use Prim.Native.Nat.{ℕ, _+_, _*_, _<_}
 use native.Mathlib.Omega.{arith}
 use lib.ListN.{length, getD, length-map}
 use Rattle.lists.specs.Listed.{listed}
 use Rattle.lists.proofs.Listed.{length-listed, map-listed}
 use Rattle.word.specs.Word.{bit, differ}
-use Rattle.word.specs.Times.{greatest, zeroIn}
-use Rattle.word.proofs.Sets.{greatest-cong, greatest-lt, greatest-zero-any}
+use Rattle.word.specs.Times.{greatest, noTime, zeroIn}
+use Rattle.word.proofs.Sets.{greatest-cong}
 use Rattle.gate.specs.Gate.{inverts, gate as gateFn}
 use Rattle.gate.specs.Pins.{byPins, ofPins}
 use Rattle.gate.proofs.Pins.{gate-by-pins}
@@ -20,14 +20,9 @@ use Rattle.wiring.specs.Layout.{pinsAt}
 use Rattle.fields.specs.Fields.{Gates}
 use Rattle.variables.specs.Variables.{heldIn, varsOf, readIn, readsIn, fnIn}
 
--- the largest element below t of a set with 0 inserted, t being 1 or more
-largest-in : (f g : ℕ → Bool) (t u : ℕ) → 0 < t → ((i : ℕ) → f i ≡ zeroIn g i) → u ≡ greatest f t 64 → u ≡ greatest (zeroIn g) t 0
-largest-in f g zero u l h e = absurd (omega arith)
-largest-in f g (suc t) u l h e = e ∙ greatest-cong f (zeroIn g) (suc t) 64 (λ i b. h i) ∙ greatest-zero-any g t 64
-
--- it lies below t
-pub largest-low : (f g : ℕ → Bool) (t u : ℕ) → 0 < t → ((i : ℕ) → f i ≡ zeroIn g i) → u ≡ greatest f t 64 → u < t
-largest-low f g t u l h e = omega (arith, largest-in f g t u l h e, greatest-lt (zeroIn g) t 0 l)
+-- the largest element below t of a set with 0 inserted
+largest-in : (f g : ℕ → Bool) (t u : ℕ) → ((i : ℕ) → f i ≡ zeroIn g i) → u ≡ greatest f t noTime → u ≡ greatest (zeroIn g) t noTime
+largest-in f g t u h e = e ∙ greatest-cong f (zeroIn g) t noTime (λ i b. h i)
 
 -- a pin that is not open names a net
 pub pin-names : (p n : ℕ) → (p < 256) ⊎ (p ≡ openPin) → ¬ (p ≡ openPin) → n ≡ p → n < 256
@@ -40,14 +35,14 @@ module _ (loose : Bool) (words sets : List ℕ) (t p : ℕ) where
   read-open e = rw e (sym (at-open loose _))
 
   -- a pin that names net n: its set with 0 inserted is w, and u is that set's largest element below t
-  pub read-net : (n w u : ℕ) (b : Bool) → 0 < t → ¬ (p ≡ openPin) → n ≡ p → ((i : ℕ) → bit w i ≡ zeroIn (bit (getD sets n 0)) i) → u ≡ greatest (bit w) t 64
+  pub read-net : (n w u : ℕ) (b : Bool) → ¬ (p ≡ openPin) → n ≡ p → ((i : ℕ) → bit w i ≡ zeroIn (bit (getD sets n 0)) i) → u ≡ greatest (bit w) t noTime
       → b ≡ bit (getD words n 0) u → b ≡ heldIn loose words (readIn sets t p)
   unfolding heldIn readIn
-  read-net n w u b l q e h m r =
-      r ∙ ap (bit (getD words n 0)) (largest-in (bit w) (bit (getD sets n 0)) t u l h m)
-      ∙ ap (λ k. bit (getD words k 0) (greatest (zeroIn (bit (getD sets k 0))) t 0)) e
-      ∙ ap (λ x. bit (getD words p 0) (greatest (zeroIn (bit x)) t 0)) (sym (at-net 1 (λ k. getD sets k 0) p q))
-      ∙ sym (at-net loose (λ k. bit (getD words k 0) (greatest (zeroIn (bit (atPin 1 (λ m. getD sets m 0) p))) t 0)) p q)
+  read-net n w u b q e h m r =
+      r ∙ ap (bit (getD words n 0)) (largest-in (bit w) (bit (getD sets n 0)) t u h m)
+      ∙ ap (λ k. bit (getD words k 0) (greatest (zeroIn (bit (getD sets k 0))) t noTime)) e
+      ∙ ap (λ x. bit (getD words p 0) (greatest (zeroIn (bit x)) t noTime)) (sym (at-net 1 (λ k. getD sets k 0) p q))
+      ∙ sym (at-net loose (λ k. bit (getD words k 0) (greatest (zeroIn (bit (atPin 1 (λ m. getD sets m 0) p))) t noTime)) p q)
 
 -- what the i-th pin of a gate reads; what the pins come to, pin by pin
 abbrev pub pin : List ℕ → List ℕ → List ℕ → ℕ → ℕ → ℕ → Bool

@@ -7,7 +7,7 @@ use Prim.Native.Nat.{ℕ, _+_, _^_, _<_}
 use lib.ListN.{length, getD}
 use Rattle.lists.specs.Listed.{listed}
 use Rattle.word.specs.Word.{bit, wordOf}
-use Rattle.word.specs.Times.{greatest, zeroIn}
+use Rattle.word.specs.Times.{greatest, noTime, zeroIn}
 use Rattle.gate.specs.Gate.{gate as gateFn}
 use Rattle.rule.specs.Net.{openValue, atPin}
 use Rattle.rule.specs.Run.{step}
@@ -33,7 +33,7 @@ wordsOf s = listed (λ n. wordOf 64 (λ t. s (record { net = n; time = t }))) 25
 
 -- "It reads, for each pin, the variable of the pin's largest element strictly below the step's time." An open pin has {0}.
 unfoldable pub readIn : List ℕ → ℕ → ℕ → Step
-readIn sets t p = record { net = p; time = greatest (zeroIn (bit (atPin 1 (λ n. getD sets n 0) p))) t 0 }
+readIn sets t p = record { net = p; time = greatest (zeroIn (bit (atPin 1 (λ n. getD sets n 0) p))) t noTime }
 
 abbrev pub readsIn : List ℕ → List ℕ → List ℕ → Step → List Step
 readsIn counts places sets k = map (readIn sets (k .time)) (pinsAt counts places (k .net))
@@ -48,7 +48,7 @@ stepIn types counts places sets words k = wordsOf (step sameStep (readsIn counts
 
 -- a net's history, read from its variables: at each time the variable of the largest element not above it
 unfoldable pub historyOf : ℕ → ℕ → ℕ
-historyOf set vars = wordOf 64 (λ t. bit vars (greatest (zeroIn (bit set)) (t + 1) 0))
+historyOf set vars = wordOf 64 (λ t. bit vars (greatest (zeroIn (bit set)) (t + 1) noTime))
 
 abbrev pub historyFrom : List ℕ → List ℕ → ℕ → ℕ
 historyFrom sets words n = historyOf (getD sets n 0) (getD words n 0)

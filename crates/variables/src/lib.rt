@@ -14,7 +14,7 @@ use word::PcSet;
 
 // What an array has for the variable that a pin is read by at time t, that of its largest element strictly below t: for an open pin `loose`.
 pub fn read_at<'a>(words: &[u64; 256], sets: &'a [u64; 256], p: u16, t: u32, loose: bool) -> bool
-    requires { ⌜ (0 < t) × ((p < 256) ⊎ (p ≡ openPin)) ⌝ }
+    requires { ⌜ (p < 256) ⊎ (p ≡ openPin) ⌝ }
     ensures { λ r. ⌜ r ≡ heldIn loose (now (words .entry)) (readIn (now (sets .entry)) t p) ⌝ }
 {
     if p == wiring::OPEN {
@@ -40,7 +40,7 @@ fn gather<'a>(
 ) -> bool
     requires { ⌜ Wires (now counts) (now places) n ⌝ }
     requires { ⌜ Fitting (now counts) (now places) n ⌝ }
-    requires { ⌜ (g < 256) × (0 < t) × (0 < getD (now counts) g 0) × (rule .controlling ≡ controls ty) ⌝ }
+    requires { ⌜ (g < 256) × (0 < getD (now counts) g 0) × (rule .controlling ≡ controls ty) ⌝ }
     ensures { λ r. ⌜ r ≡ byPins ty (map (varsOf (now (vars .entry))) (readsIn (now (counts .entry)) (now (places .entry)) (now (sets .entry)) (record { net = g; time = t }))) ⌝ }
 {
     let count = wiring::wide(counts[g]);
@@ -73,7 +73,7 @@ pub fn step<'a>(
     requires { ⌜ Wires (now counts) (now places) n ⌝ }
     requires { ⌜ Fitting (now counts) (now places) n ⌝ }
     requires { ⌜ Gates (now types) (now counts) g ⌝ }
-    requires { ⌜ (0 < t) × (t < 64) × Words (now vars) ⌝ }
+    requires { ⌜ (t < 64) × Words (now vars) ⌝ }
     ensures { λ r. ⌜ now (vars .exit) ≡ stepIn (now (types .entry)) (now (counts .entry)) (now (places .entry)) (now (sets .entry)) (now (vars .entry)) (record { net = g; time = t }) ⌝ }
 {
     let ty = wiring::wide(types[g]);

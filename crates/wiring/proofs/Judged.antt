@@ -7,7 +7,7 @@ use lib.Dec.{ltb}
 use lib.ListN.{length}
 use borrow.Author.Tests.{lt-ltb, le-ltb, ltb-false}
 use Rattle.lists.specs.Listed.{listed}
-use Rattle.rule.specs.Net.{Net, Pinned}
+use Rattle.rule.specs.Net.{Net, Named, Pinned}
 use Rattle.rule.specs.Level.{level, depth}
 use Rattle.rule.specs.Steps.{gateOrder, stepList}
 use Rattle.rule.specs.declared.Refusal.the-variants.{NoSuchPin, Looped, TooDeep, TooManySteps}
@@ -16,22 +16,10 @@ use Rattle.wiring.specs.declared.Wired.{Wired}
 use Rattle.wiring.specs.declared.Order.{Order}
 use Rattle.wiring.specs.Layout.{Fits, countsOf, placesOf}
 use Rattle.wiring.specs.Wires.{allFit, backs, highest, orderOf, setsAlong, sizesOf}
-use Rattle.wiring.specs.Wired.{pinsFit, mostBack, setWords, refused, passed, ordered, setWired, wiredOf}
+use Rattle.wiring.specs.Wired.{pinsFit, mostBack, setWords, refused, passed, ordered, setWired, levelWired, arraysWired, wiredOf}
 use Rattle.wiring.proofs.Layouts.{fits-laid, levels-laid, depth-laid, order-laid}
-use Rattle.wiring.proofs.Judgements.{depth-back, no-loop}
+use Rattle.wiring.proofs.Judgements.{pins-named, depth-back, no-loop}
 use Rattle.wiring.proofs.CardSets.{sets-laid, sizes-laid}
-
--- from the gates counted backwards on
-abbrev pub levelWired : List ℕ → List ℕ → ℕ → List ℕ → ℕ → Wired
-levelWired counts places n levels d =
-    cond (ltb n d) (refused Looped) (cond (ltb 63 d) (refused TooDeep) (setWired counts places (orderOf levels n d)))
-
--- what `wire` works out
-unfoldable pub arraysWired : List ℕ → List ℕ → ℕ → Wired
-arraysWired counts places n =
-    cond (allFit counts places n)
-    (levelWired counts places n (backs counts places (n + 1)) (highest (backs counts places (n + 1)) n))
-    (refused NoSuchPin)
 
 -- by what its tests say
 pub wired-unfit : (counts places : List ℕ) (n : ℕ) → allFit counts places n ≡ false → refused NoSuchPin ≡ arraysWired counts places n
@@ -55,21 +43,21 @@ module _ {counts places : List ℕ} {n : ℕ} {levels : List ℕ} {d : ℕ} (kno
   pub wired-deep : d ≤ n → 63 < d → refused TooDeep ≡ arraysWired counts places n
   wired-deep l h = rw (← from-levels, le-ltb n d l, lt-ltb 63 d h)
 
-  pub wired-sets : d ≤ n → d ≤ 63 → setWired counts places (orderOf levels n d) ≡ arraysWired counts places n
+  pub wired-sets : d ≤ n → d ≤ 63 → setWired counts places n (orderOf levels n d) ≡ arraysWired counts places n
   wired-sets l h = rw (← from-levels, le-ltb n d l, le-ltb 63 d h)
 
 -- What `with_sets` works out: an order of the gates, the sets along it, and their sizes, added
-pub record Along (counts places order : List ℕ) (by : Order) (sets : List ℕ) (steps : ℕ) : Type 0 where
+pub record Along (counts places : List ℕ) (n : ℕ) (order : List ℕ) (by : Order) (sets : List ℕ) (steps : ℕ) : Type 0 where
   pub ordering : by ≡ ordered order
-  pub made : sets ≡ setsAlong counts places order
+  pub made : sets ≡ setsAlong counts places n order
   pub counted : steps ≡ sizesOf sets order
 
-module _ {counts places order : List ℕ} {by : Order} {sets : List ℕ} {steps : ℕ} (known : Along counts places order by sets steps) where
-  pub sets-refused : 4096 < steps → refused TooManySteps ≡ setWired counts places order
-  sets-refused l = rw (lt-ltb 4096 (sizesOf (setsAlong counts places order) order) (rw (known .counted, known .made) at l))
+module _ {counts places : List ℕ} {n : ℕ} {order : List ℕ} {by : Order} {sets : List ℕ} {steps : ℕ} (known : Along counts places n order by sets steps) where
+  pub sets-refused : 4096 < steps → refused TooManySteps ≡ setWired counts places n order
+  sets-refused l = rw (lt-ltb 4096 (sizesOf (setsAlong counts places n order) order) (rw (known .counted, known .made) at l))
 
-  pub sets-passed : steps ≤ 4096 → _≡_ {A = Wired} (record { verdict = Passed; gates = by .gates; order = by .list; sets = sets }) (setWired counts places order)
-  sets-passed l = rw (le-ltb 4096 (sizesOf (setsAlong counts places order) order) (rw (known .counted, known .made) at l), known .ordering, known .made)
+  pub sets-passed : steps ≤ 4096 → _≡_ {A = Wired} (record { verdict = Passed; gates = by .gates; order = by .list; sets = sets }) (setWired counts places n order)
+  sets-passed l = rw (le-ltb 4096 (sizesOf (setsAlong counts places n order) order) (rw (known .counted, known .made) at l), known .ordering, known .made)
 
 -- two judgements by one test agree where their arms do
 if-true : {A : Type 0} (a b : Bool) (x y z : A) → a ≡ b → (b ≡ true → x ≡ y) → cond a x z ≡ cond b y z
@@ -85,10 +73,10 @@ module _ (c : List Net) (fit : Fits c) (pinned : Pinned c) where
   stepsWired : Wired
   stepsWired = cond (ltb 4096 (length (stepList c))) (refused TooManySteps) (passed (gateOrder c) (setWords c))
 
-  steps-judged : mostBack c ≤ length c → depth c ≤ 63 → setWired (countsOf c) (placesOf c) (gateOrder c) ≡ stepsWired
+  steps-judged : Named c → mostBack c ≤ length c → depth c ≤ 63 → setWired (countsOf c) (placesOf c) (length c) (gateOrder c) ≡ stepsWired
   unfolding stepsWired
-  steps-judged l shallow =
-      ap (λ sets. cond (ltb 4096 (sizesOf sets (gateOrder c))) (refused TooManySteps) (passed (gateOrder c) sets)) (sets-laid c (no-loop c l) fit pinned)
+  steps-judged named l shallow =
+      ap (λ sets. cond (ltb 4096 (sizesOf sets (gateOrder c))) (refused TooManySteps) (passed (gateOrder c) sets)) (sets-laid c (no-loop c l) fit pinned named)
       ∙ ap (λ k. cond (ltb 4096 k) (refused TooManySteps) (passed (gateOrder c) (setWords c))) (sizes-laid c (no-loop c l) fit shallow)
 
   -- 6 before it,
@@ -96,22 +84,17 @@ module _ (c : List Net) (fit : Fits c) (pinned : Pinned c) where
   deepWired w = cond (ltb 63 (depth c)) (refused TooDeep) w
 
   -- and 5
-  levels-judged : (levels : List ℕ) (d : ℕ) → levels ≡ listed (level c) 256 → d ≡ depth c
+  levels-judged : Named c → (levels : List ℕ) (d : ℕ) → levels ≡ listed (level c) 256 → d ≡ depth c
       → levelWired (countsOf c) (placesOf c) (length c) levels d ≡ cond (ltb (length c) (mostBack c)) (refused Looped) (deepWired stepsWired)
-  levels-judged levels d e q =
-      let sets = setWired (countsOf c) (placesOf c) (gateOrder c) in
+  levels-judged named levels d e q =
+      let sets = setWired (countsOf c) (placesOf c) (length c) (gateOrder c) in
       rw (e, q, order-laid c fit)
       (if-false (ltb (length c) (depth c)) (ltb (length c) (mostBack c)) (deepWired sets) (deepWired stepsWired) (refused Looped) (ap (ltb (length c)) (depth-back c))
       (λ f. if-false (ltb 63 (depth c)) (ltb 63 (depth c)) sets stepsWired (refused TooDeep) refl
-      (λ g. steps-judged (ltb-false (length c) (mostBack c) f) (ltb-false 63 (depth c) g))))
+      (λ g. steps-judged named (ltb-false (length c) (mostBack c) f) (ltb-false 63 (depth c) g))))
 
-  judged-card : arraysWired (countsOf c) (placesOf c) (length c) ≡ wiredOf c
+  pub judged : arraysWired (countsOf c) (placesOf c) (length c) ≡ wiredOf c
   unfolding arraysWired wiredOf stepsWired
-  judged-card =
+  judged =
       if-true (allFit (countsOf c) (placesOf c) (length c)) (pinsFit c) _ _ (refused NoSuchPin) (fits-laid c fit) (λ e.
-      levels-judged _ _ (levels-laid c fit) (ap (λ levels. highest levels (length c)) (levels-laid c fit) ∙ depth-laid c fit))
-
--- so it is for any arrays that a card is laid out in
-pub judged : {counts places : List ℕ} {n : ℕ} {r : Wired} → r ≡ arraysWired counts places n
-    → (c : List Net) → Fits c → Pinned c → length c ≡ n → counts ≡ countsOf c → places ≡ placesOf c → r ≡ wiredOf c
-judged e c fit pinned l a b = e ∙ rw (a, b, ← l) (judged-card c fit pinned)
+      levels-judged (pins-named c e) _ _ (levels-laid c fit) (ap (λ levels. highest levels (length c)) (levels-laid c fit) ∙ depth-laid c fit))

@@ -1,6 +1,7 @@
 -- The nets by level, then number: one net more, one level more, that there is room for them, and the order at the front of an array.
 -- Assumes nothing.
 use mathlib.Core.Path.{_≡_, refl, sym, ap, _∙_}
+use mathlib.Core.Bool.{Bool, true, false}
 use mathlib.Core.List.{List, [], _∷_, _++_, append-assoc, append-nil, List·Memᴰ·eq-of-singleton, List·Memᴰ·append-cases}
 use mathlib.Core.Logic.{⊎-elim}
 use Prim.Native.Nat.{ℕ, zero, suc, _+_, _-_, _≤_, _<_}
@@ -20,7 +21,7 @@ use Rattle.lists.proofs.Number.{distinct-below}
 use Rattle.lists.proofs.Listed.{listed-set, listed-same, listed-at, listed-all, is-listed}
 use Rattle.wiring.specs.declared.Order.{Order}
 use Rattle.wiring.specs.Wires.{row, orderOf, padded}
-use Rattle.wiring.specs.Wired.{ordered}
+use Rattle.wiring.specs.Wired.{ordered, ending}
 
 abbrev Apart : ℕ → ℕ → Type 0
 Apart x y = ¬ (x ≡ y)
@@ -137,10 +138,11 @@ padded-more xs v l = listed-set (λ i. getD xs i 0) (λ i. getD (xs ++ (v ∷ []
 pub ordered-none : (levels : List ℕ) (n : ℕ) → _≡_ {A = Order} (record { gates = 0; list = replicate 256 0 }) (ordered (orderOf levels n 0))
 ordered-none levels n = rw (order-none levels n) (λ i. record { gates = 0; list = padded-none i })
 
-pub ordered-more : (order : Order) (xs : List ℕ) (g : ℕ) → order ≡ ordered xs → order .gates < 256
-    → _≡_ {A = Order} (record { gates = order .gates + 1; list = set (order .list) (order .gates) g }) (ordered (xs ++ (g ∷ [])))
-ordered-more order xs g e l =
-    let room : length xs < 256 = rw e at l in
+pub ordered-more : (order : Order) (xs : List ℕ) (b : Bool) (g : ℕ) → order ≡ ordered xs → (b ≡ true → order .gates < 256)
+    → ending order b g ≡ ordered (xs ++ when b (g ∷ []))
+ordered-more order xs false g e l = rw (append-nil xs) e
+ordered-more order xs true g e l =
+    let room : length xs < 256 = rw e at (l refl) in
     rw e (λ i. record { gates = sym (length-append xs (g ∷ [])) i; list = padded-more xs g room i })
 
 -- what stands at the front is read back

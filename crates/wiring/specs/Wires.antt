@@ -1,7 +1,7 @@
 -- What the loops over the arrays work out: pins that fit, gates counted backwards, the order of the gates, their PC-sets, the number of
 -- steps. Assumes nothing.
 use mathlib.Core.Path.{_≡_}
-use mathlib.Core.Bool.{Bool, false, _||_}
+use mathlib.Core.Bool.{Bool, false, _||_, _&&_}
 use mathlib.Core.List.{List, [], _∷_, map}
 use mathlib.Core.Logic.{_⊎_}
 use Prim.Native.Nat.{ℕ, _≤_, _<_}
@@ -9,9 +9,9 @@ use lib.Dec.{ltb, eqb}
 use lib.ListN.{getD}
 use Rattle.lists.specs.Entries.{_∈_, some, every, each, when, from, sum}
 use Rattle.lists.specs.Listed.{listed}
-use Rattle.word.specs.Word.{bit, wordOf, movedUp}
+use Rattle.word.specs.Word.{val, bit, wordOf, movedUp}
 use Rattle.word.specs.Times.{count}
-use Rattle.rule.specs.Net.{openPin}
+use Rattle.rule.specs.Net.{openPin, atPin}
 use Rattle.rule.specs.Level.{most, longest}
 use Rattle.rule.specs.Run.{run}
 use Rattle.wiring.specs.Layout.{pinsAt}
@@ -57,9 +57,14 @@ padded xs = listed (λ i. getD xs i 0) 256
 unfoldable pub joined : ℕ → List ℕ → ℕ
 joined g ws = wordOf 64 (movedUp false (λ t. some (λ w. bit w t) ws))
 
--- the sets along an order of the gates, from {0} for all
-unfoldable pub setsAlong : List ℕ → List ℕ → List ℕ → List ℕ
-setsAlong counts places order = listed (run eqb (pinsAt counts places) joined (λ g. 1) order) 256
+-- the sets ahead of the gates: "{0} for inputs and constants", the nets of the card that have no pins; cleared for gates, and past the card. An open pin, which is no
+-- entry of the array, has {0}
+abbrev pub sourceSet : List ℕ → ℕ → ℕ → ℕ
+sourceSet counts n = atPin 1 (λ g. val (ltb g n && eqb (getD counts g 0) 0))
+
+-- the sets along an order of the gates
+unfoldable pub setsAlong : List ℕ → List ℕ → ℕ → List ℕ → List ℕ
+setsAlong counts places n order = listed (run eqb (pinsAt counts places) joined (sourceSet counts n) order) 256
 
 -- the sizes of the sets of an order's gates, added
 unfoldable pub sizesOf : List ℕ → List ℕ → ℕ

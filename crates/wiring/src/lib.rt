@@ -1,18 +1,19 @@
 // The wiring of a card that is laid out in arrays: counts says how many pins each net has, places what they name, 8 places a net.
 ghost use mathlib.Core.Path.{_≡_};
 ghost use mathlib.Core.Bool.{true, false};
-ghost use mathlib.Core.List.{List, [], _∷_, _++_, map};
+ghost use mathlib.Core.List.{map};
 ghost use mathlib.Core.Logic.{_⊎_};
 ghost use Prim.Native.Nat.{ℕ, _+_, _-_, _*_, _<_, _≤_, max};
 ghost use lib.Dec.{eqb};
 ghost use lib.ListN.{length, getD};
-ghost use Rattle.lists.specs.Entries.{every, when};
+ghost use Rattle.lists.specs.Entries.{every};
 ghost use Rattle.lists.specs.Listed.{listed};
-ghost use Rattle.rule.specs.Net.{Net, openPin, atPin, Pinned};
+ghost use Rattle.word.specs.Word.{val};
+ghost use Rattle.rule.specs.Net.{openPin, atPin};
 ghost use Rattle.rule.specs.Level.{over};
-ghost use Rattle.wiring.specs.Layout.{Fits, countsOf, placesOf, pinsAt};
-ghost use Rattle.wiring.specs.Wires.{Wires, Fitting, pinFits, allFit, backs, highest, orderOf, joined, setsAlong, sizesOf};
-ghost use Rattle.wiring.specs.Wired.{ordered, setWired, wiredOf};
+ghost use Rattle.wiring.specs.Layout.{pinsAt};
+ghost use Rattle.wiring.specs.Wires.{Wires, Fitting, pinFits, allFit, backs, highest, orderOf, joined, sourceSet, setsAlong, sizesOf};
+ghost use Rattle.wiring.specs.Wired.{ordered, ending, setWired, arraysWired};
 use rule::Refusal;
 use word::PcSet;
 
@@ -196,7 +197,7 @@ pub struct Order {
 // The order with net g at its end, if g has level l.
 fn with_net(order: Order, level: u64, l: u64, g: usize) -> Order
     requires { ⌜ (g < 256) × (level ≡ l → order .gates < 256) ⌝ }
-    ensures { λ r. ⌜ ((xs : List ℕ) → order ≡ ordered xs → r ≡ ordered (xs ++ when (eqb level l) (g ∷ []))) ⌝ }
+    ensures { λ r. ⌜ r ≡ ending order (eqb level l) g ⌝ }
 {
     if level != l {
         return order;
@@ -266,7 +267,28 @@ fn set_of<'a>(
     raised.word
 }
 
-// The PC-sets of all nets: {0}, and the gates' along their order.
+// The PC-set of a net with so many pins, ahead of the gates: {0} for an input or a constant, which has none.
+fn source_set(pins: u8) -> u64
+    ensures { λ r. ⌜ r ≡ val (eqb pins 0) ⌝ }
+{
+    if pins == 0 { 1 } else { 0 }
+}
+
+// The cleared sets, with {0} put in for inputs and constants.
+fn source_sets(counts: &[u8; 256], n: usize) -> [u64; 256]
+    requires { ⌜ n ≤ 256 ⌝ }
+    ensures { λ r. ⌜ r ≡ listed (sourceSet (now (counts .entry)) n) 256 ⌝ }
+{
+    let mut sets = [0u64; 256];
+    let mut g: usize = 0;
+    while g < n {
+        sets[g] = source_set(counts[g]);
+        g += 1;
+    }
+    sets
+}
+
+// The PC-sets of all nets: those of inputs and constants, and the gates' along their order.
 pub fn pcsets<'a>(
     counts: &'a [u8; 256],
     places: &'a [u16; 2048],
@@ -277,9 +299,9 @@ pub fn pcsets<'a>(
     requires { ⌜ Wires (now counts) (now places) n ⌝ }
     requires { ⌜ Fitting (now counts) (now places) n ⌝ }
     requires { ⌜ (gates ≤ 256) × ((i : ℕ) → getD (now order) i 0 < 256) ⌝ }
-    ensures { λ r. ⌜ r ≡ setsAlong (now (counts .entry)) (now (places .entry)) (listed (λ (i : ℕ). getD (now (order .entry)) i 0) gates) ⌝ }
+    ensures { λ r. ⌜ r ≡ setsAlong (now (counts .entry)) (now (places .entry)) n (listed (λ (i : ℕ). getD (now (order .entry)) i 0) gates) ⌝ }
 {
-    let mut sets = [1u64; 256];
+    let mut sets = source_sets(counts, n);
     let mut i: usize = 0;
     while i < gates {
         let g = wide16(order[i]);
@@ -341,7 +363,7 @@ fn with_sets<'a>(
     requires { ⌜ Wires (now counts) (now places) n ⌝ }
     requires { ⌜ Fitting (now counts) (now places) n ⌝ }
     requires { ⌜ depth < 1000 ⌝ }
-    ensures { λ r. ⌜ r ≡ setWired (now (counts .entry)) (now (places .entry)) (orderOf (now (levels .entry)) n depth) ⌝ }
+    ensures { λ r. ⌜ r ≡ setWired (now (counts .entry)) (now (places .entry)) n (orderOf (now (levels .entry)) n depth) ⌝ }
 {
     let by = by_level(levels, n, depth);
     let gates = by.gates;
@@ -361,7 +383,7 @@ fn with_sets<'a>(
 // The judgement of a card's wiring: 4, 5, 6, 7; then the order of its gates and their PC-sets.
 pub fn wire<'a>(counts: &'a [u8; 256], places: &'a [u16; 2048], n: usize) -> Wired
     requires { ⌜ Wires (now counts) (now places) n ⌝ }
-    ensures { λ r. ⌜ ((c : List Net) → Fits c → Pinned c → length c ≡ n → now (counts .entry) ≡ countsOf c → now (places .entry) ≡ placesOf c → r ≡ wiredOf c) ⌝ }
+    ensures { λ r. ⌜ r ≡ arraysWired (now (counts .entry)) (now (places .entry)) n ⌝ }
 {
     if !all_fit(counts, places, n) {
         return refused(Refusal::NoSuchPin);

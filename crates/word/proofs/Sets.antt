@@ -126,21 +126,6 @@ greatest-ge f (suc n) none r l e = go (f n) refl (eq-or-lt-of-le (le-of-suc-le-s
         let ih = rest lt in
         (omega (arith, ih .0), omega (arith, ih .1), ap f q ∙ ih .2)
 
--- it is `none` or an element below n
-pub greatest-in : (f : ℕ → Bool) (n none : ℕ) → (greatest f n none ≡ none) ⊎ ((greatest f n none < n) × (f (greatest f n none) ≡ true))
-unfolding greatest
-greatest-in f zero none = inl refl
-greatest-in f (suc n) none = go (f n) refl (greatest-in f n none)
-  where
-    go : (b : Bool) → f n ≡ b → (greatest f n none ≡ none) ⊎ ((greatest f n none < n) × (f (greatest f n none) ≡ true))
-        → (cond b n (greatest f n none) ≡ none) ⊎ ((cond b n (greatest f n none) < suc n) × (f (cond b n (greatest f n none)) ≡ true))
-    go true e ih = inr (omega arith, e)
-    go false e (inl q) = inl q
-    go false e (inr q) = inr (omega (arith, q .0), q .1)
-
-pub greatest-lt : (f : ℕ → Bool) (n none : ℕ) → none < n → greatest f n none < n
-greatest-lt f n none l = ⊎-elim (λ e. omega arith) (λ h. h .0) (greatest-in f n none)
-
 -- where a test takes nothing from n up, the greatest below any m from n up is the greatest below n
 pub greatest-cut : (f g : ℕ → Bool) (n m none : ℕ) → n ≤ m → ((s : ℕ) → s < n → f s ≡ g s) → ((s : ℕ) → n ≤ s → f s ≡ false) → greatest f m none ≡ greatest g n none
 unfolding greatest
@@ -151,7 +136,15 @@ greatest-cut f g n (suc m) none l h z =
     (λ (e : n ≡ suc m). subst (λ (x : ℕ). greatest f x none ≡ greatest g n none) e (greatest-cong f g n none h))
     (le-suc-iff .0 l)
 
--- The inserted 0: where 0 answers for an empty set it changes nothing
+-- The inserted 0: with it there is always an element
+module _ (f : ℕ → Bool) (n none : ℕ) (some : 0 < n) where
+  pub zero-lt : greatest (zeroIn f) n none < n
+  zero-lt = greatest-ge (zeroIn f) n none 0 some refl .1
+
+  pub zero-in : zeroIn f (greatest (zeroIn f) n none) ≡ true
+  zero-in = greatest-ge (zeroIn f) n none 0 some refl .2
+
+-- where 0 answers for an empty set it changes nothing
 
 pub greatest-zero : (f : ℕ → Bool) (n : ℕ) → greatest (zeroIn f) n 0 ≡ greatest f n 0
 unfolding greatest
@@ -163,7 +156,7 @@ greatest-zero f (suc zero) = go (f 0)
     go false = refl
 greatest-zero f (suc (suc n)) = ap (λ x. cond (f (suc n)) (suc n) x) (greatest-zero f (suc n))
 
--- and with it there is always an element
+-- and whatever answers is never asked
 pub greatest-zero-any : (f : ℕ → Bool) (n none : ℕ) → greatest (zeroIn f) (suc n) none ≡ greatest (zeroIn f) (suc n) 0
 unfolding greatest
 greatest-zero-any f zero none = refl

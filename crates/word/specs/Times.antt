@@ -18,6 +18,10 @@ unfoldable pub greatest : (ℕ → Bool) → ℕ → ℕ → ℕ
 greatest f zero none = none
 greatest f (suc n) none = cond (f n) n (greatest f n none)
 
+-- no time of a word: it stands for an element where a set has none
+abbrev pub noTime : ℕ
+noTime = 64
+
 -- the set with 0 inserted
 abbrev pub zeroIn : (ℕ → Bool) → ℕ → Bool
 zeroIn f zero = true

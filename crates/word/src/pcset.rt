@@ -3,7 +3,7 @@ ghost use mathlib.Core.Path.{_≡_};
 ghost use mathlib.Core.Bool.{false, _||_};
 ghost use Prim.Native.Nat.{ℕ, _<_};
 ghost use Rattle.word.specs.Word.{bit, movedUp};
-ghost use Rattle.word.specs.Times.{count, least, greatest, zeroIn};
+ghost use Rattle.word.specs.Times.{count, least, greatest, noTime, zeroIn};
 
 pub struct PcSet {
     pub word: u64,
@@ -53,7 +53,7 @@ impl PcSet {
 
     // The largest time; 64 where the set is empty.
     pub fn most(self) -> u32
-        ensures { λ r. ⌜ r ≡ greatest (bit (self .word)) 64 64 ⌝ }
+        ensures { λ r. ⌜ r ≡ greatest (bit (self .word)) 64 noTime ⌝ }
     {
         if self.word == 0 {
             return 64;
@@ -63,7 +63,7 @@ impl PcSet {
 
     // The largest time strictly below t; 64 where there is none.
     pub fn largest_below(self, t: u32) -> u32
-        ensures { λ r. ⌜ r ≡ greatest (bit (self .word)) t 64 ⌝ }
+        ensures { λ r. ⌜ r ≡ greatest (bit (self .word)) t noTime ⌝ }
     {
         if 64 <= t {
             return self.most();

@@ -18,13 +18,19 @@ enum-told : tie.Need-enum-told
 enum-told c = search needs
 
 returns : tie.Need-returns
-returns c nets fits pinned size inputs ek et ec ep =
+returns c =
+    let known = c .before .before in
+    let wired = known .before .before in
+    let a = wired .before .args in
     c .refused .ensures
-    ∙ conclude-faulty (record { fits = fits; pinned = pinned; size = size; kinds-laid = ek; types-laid = et; counts-laid = ec; places-laid = ep }) _ _ inputs _ _ (c .before .before .before .before .wire .ensures nets fits pinned size ec ep) _ (c .before .before .verdict .given .1)
+    ∙ conclude-faulty (a .old) (a .n) (a .kinds .now) (a .types .now) (a .counts .now) (a .places .now) (a .count) (a .inputs) (wired .wire .result) (wired .wire .ensures) _ (known .verdict .given .1)
 
 returns-2 : tie.Need-returns-2
-returns-2 c nets fits pinned size inputs ek et ec ep =
-    conclude-passed (record { fits = fits; pinned = pinned; size = size; kinds-laid = ek; types-laid = et; counts-laid = ec; places-laid = ep }) _ _ inputs _ _ (c .before .before .before .before .before .before .before .before .wire .ensures nets fits pinned size ec ep) (c .before .before .before .before .before .before .enum-told .given .1)
+returns-2 c =
+    let told = c .before .before .before .before .before .before in
+    let wired = told .before .before in
+    let a = wired .before .args in
+    conclude-passed (a .old) (a .n) (a .kinds .now) (a .types .now) (a .counts .now) (a .places .now) (a .count) (a .inputs) (wired .wire .result) (wired .wire .ensures) (told .enum-told .given .1)
 
 pub conclude-spec : {M : Type 1} → statement M
 conclude-spec = tie.close (tie.spec wire-requires enum-known-verdict refused-requires enum-told returns returns-2)

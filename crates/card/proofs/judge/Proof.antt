@@ -12,17 +12,21 @@ refused-requires : tie.Need-refused-requires
 refused-requires c κs = search needs
 
 returns : tie.Need-returns
-returns c nets fits pinned size ek et ec ep =
+returns c =
+    let counted = c .before .before in
+    let a = counted .before .args in
     c .refused .ensures
-    ∙ judge-none (record { fits = fits; pinned = pinned; size = size; kinds-laid = ek; types-laid = et; counts-laid = ec; places-laid = ep }) _ _ (c .before .before .inputs-below .ensures) (c .before .if1 .taken)
+    ∙ judge-none (a .old) (a .n) (a .kinds .now) (a .types .now) (a .counts .now) (a .places .now) (counted .inputs-below .result) (counted .inputs-below .ensures) (c .before .if1 .taken)
 
 conclude-requires : tie.Need-conclude-requires
 conclude-requires c κs = search needs
 
 returns-2 : tie.Need-returns-2
-returns-2 c nets fits pinned size ek et ec ep =
-    judge-some (record { fits = fits; pinned = pinned; size = size; kinds-laid = ek; types-laid = et; counts-laid = ec; places-laid = ep }) _ _ (c .before .before .inputs-below .ensures) _
-    (λ e. c .conclude .ensures nets fits pinned size e ek et ec ep) (c .before .if1 .left)
+returns-2 c =
+    let counted = c .before .before in
+    let a = counted .before .args in
+    c .conclude .ensures
+    ∙ judge-some (a .old) (a .n) (a .kinds .now) (a .types .now) (a .counts .now) (a .places .now) (counted .inputs-below .result) (counted .inputs-below .ensures) (c .before .if1 .left)
 
 pub judge-spec : {M : Type 1} → statement M
 judge-spec = tie.close (tie.spec inputs-below-requires refused-requires returns conclude-requires returns-2)

@@ -2,7 +2,7 @@
 use mathlib.Core.Path.{_∙_}
 use native.Mathlib.Omega.{arith}
 use Rattle.records.specs.Written.{Bytes}
-use Rattle.card.proofs.Reading.{load-stopped, load-laid, load-wires, load-judged}
+use Rattle.card.proofs.Reading.{load-stopped, load-wires, load-judged}
 use borrow.Author.Needs.{needs}
 use Rattle.card.proofs.load.Statement.{statement}
 use Rattle.card.proofs.load.Tie as tie
@@ -31,9 +31,9 @@ returns c = c .refused .ensures ∙ load-stopped _ _ _ (c .before .before .befor
 
 returns-2 : tie.Need-returns-2
 returns-2 c =
-    let l = load-laid (c .before .before .before .before .before .before .before .before .before .before .before .args .old) _ _ (c .before .before .before .before .before .before .before .before .before .parse .ensures) (bytes (c .before)) _ (c .before .before .before .before .before .before .before .outcome2 .given .1) in
-    c .judge .ensures _ (l .fits) (l .pinned) (l .size) (l .kinds-laid) (l .types-laid) (l .counts-laid) (l .places-laid)
-    ∙ load-judged _ _ _ (c .before .before .before .before .before .before .before .before .before .parse .ensures) (bytes (c .before)) _ (c .before .before .before .before .before .before .before .outcome2 .given .1)
+    let read = c .before .before .before .before .before .before .before in
+    let parsed = read .before .before in
+    c .judge .ensures ∙ load-judged (parsed .before .before .args .old) _ _ (parsed .parse .ensures) (bytes (c .before)) _ (read .outcome2 .given .1)
 
 pub load-spec : {M : Type 1} → statement M
 load-spec =

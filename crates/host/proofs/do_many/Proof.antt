@@ -23,8 +23,8 @@ pack-requires c κs = search needs
 enum-known-verdict : tie.Need-enum-known-verdict
 enum-known-verdict c = search needs
 
-run-by-requires : tie.Need-run-by-requires
-run-by-requires c κs =
+run-many-requires : tie.Need-run-many-requires
+run-many-requires c κs =
     let start = c .before .before .before .before .before .before .before .before in
     let a = start .args in
     let asks = many-asks (a .s) (a .vectors .now) (length (a .words .now)) _ (sym (c .before .before .before .before .judge-many .ensures) ∙ c .before .before .verdict .given .1) in
@@ -46,8 +46,8 @@ pack-requires-2 c κs = search needs
 returns : tie.Need-returns
 returns c =
     let a = c .before .before .before .before .before .before .before .args in
-    done-refused (a .how) (a .s) (a .b .now) (a .vectors .now) (a .words .now) (c .before .before .before .judge-many .result) _ (c .pack .result) (c .before .enum-told .given .1) (c .pack .ensures)
-    ∙ ap (manyDone (a .how) (a .s) (a .b .now) (a .vectors .now) (a .words .now)) (c .before .before .before .judge-many .ensures)
+    done-refused (a .engine) (a .s) (a .b .now) (a .vectors .now) (a .words .now) (c .before .before .before .judge-many .result) _ (c .pack .result) (c .before .enum-told .given .1) (c .pack .ensures)
+    ∙ ap (manyDone (a .engine) (a .s) (a .b .now) (a .vectors .now) (a .words .now)) (c .before .before .before .judge-many .ensures)
 
 same-length : tie.Need-same-length
 same-length c = search needs
@@ -58,9 +58,9 @@ same-length-2 c = search needs
 returns-2 : tie.Need-returns-2
 returns-2 c =
     let a = c .before .before .before .before .before .before .before .before .before .before .before .before .before .before .before .before .args in
-    done-all (a .how) (a .s) (a .b .now) (a .vectors .now) (a .words .now) (c .before .before .before .before .before .before .before .before .before .before .before .before .judge-many .result) _ (c .pack2 .result) (c .before .before .before .before .before .before .before .run-by .result) _ _ (c .before .before .before .before .before .before .before .before .before .before .verdict .given .1) (c .before .before .before .before .before .before .before .run-by .ensures .1) (c .pack2 .ensures)
-    (c .before .before .before .keep-many .ensures) (c .before .before .before .before .before .before .before .run-by .ensures .0)
-    ∙ ap (manyDone (a .how) (a .s) (a .b .now) (a .vectors .now) (a .words .now)) (c .before .before .before .before .before .before .before .before .before .before .before .before .judge-many .ensures)
+    done-all (a .engine) (a .s) (a .b .now) (a .vectors .now) (a .words .now) (c .before .before .before .before .before .before .before .before .before .before .before .before .judge-many .result) _ (c .pack2 .result) (c .before .before .before .before .before .before .before .run-many .result) _ _ (c .before .before .before .before .before .before .before .before .before .before .verdict .given .1) (c .before .before .before .before .before .before .before .run-many .ensures .1) (c .pack2 .ensures)
+    (c .before .before .before .keep-many .ensures) (c .before .before .before .before .before .before .before .run-many .ensures .0)
+    ∙ ap (manyDone (a .engine) (a .s) (a .b .now) (a .vectors .now) (a .words .now)) (c .before .before .before .before .before .before .before .before .before .before .before .before .judge-many .ensures)
 
 pub do-many-spec : {M : Type 1} → statement M
 do-many-spec =
@@ -70,7 +70,7 @@ do-many-spec =
     enum-told
     pack-requires
     enum-known-verdict
-    run-by-requires
+    run-many-requires
     keep-many-requires
     pack-requires-2
     returns

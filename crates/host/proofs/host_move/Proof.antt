@@ -6,7 +6,8 @@ use lib.ListN.{length}
 use borrow.Author.Tests.{not-true, not-false}
 use Rattle.session.specs.Good.{Good}
 use Rattle.making.proofs.Making.{again-good}
-use Rattle.host.specs.Calls.{operated, leftBy}
+use Rattle.moves.specs.Operated.{operated}
+use Rattle.host.specs.Calls.{leftBy}
 use Rattle.host.proofs.Answering.{move-short, move-broken, move-left}
 use borrow.Author.Needs.{needs}
 use Rattle.host.proofs.host_move.Statement.{statement}

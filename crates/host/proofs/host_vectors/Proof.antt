@@ -17,7 +17,7 @@ pack-requires : tie.Need-pack-requires
 pack-requires c κs = search needs
 
 returns : tie.Need-returns
-returns c = let a = c .before .before .before .before .before .args in vectors-short (a .how) (a .session .now) (a .vectors .now) (a .words .now) (c .pack .result) (c .before .if1 .taken) (c .pack .ensures)
+returns c = let a = c .before .before .before .before .before .args in vectors-short (a .engine) (a .session .now) (a .vectors .now) (a .words .now) (c .pack .result) (c .before .if1 .taken) (c .pack .ensures)
 
 made-again-requires : tie.Need-made-again-requires
 made-again-requires c κs = search needs
@@ -35,7 +35,7 @@ returns-2 c =
     let start = e .before .before .before .before in
     let a = start .args in
     let long : 5895 ≤ length (a .session .now) = e .if1 .left in
-    vectors-broken (a .how) (a .session .now) (a .vectors .now) (a .words .now) (c .pack2 .result) long (sym (ap (λ x. x .whole) (m .made-again .ensures)) ∙ not-true _ (c .before .if2 .taken)) (c .pack2 .ensures)
+    vectors-broken (a .engine) (a .session .now) (a .vectors .now) (a .words .now) (c .pack2 .result) long (sym (ap (λ x. x .whole) (m .made-again .ensures)) ∙ not-true _ (c .before .if2 .taken)) (c .pack2 .ensures)
 
 do-many-requires : tie.Need-do-many-requires
 do-many-requires c κs =
@@ -61,8 +61,8 @@ returns-3 c =
     let long : 5895 ≤ length (a .session .now) = e .if1 .left in
     let d = c .before .before .before .before in
     d .do-many .ensures
-    ∙ ap (λ x. manyDone (a .how) (x .session) (a .session .now) (a .vectors .now) (a .words .now) (manyJudged (x .session) (a .vectors .now) (length (a .words .now)))) (m .made-again .ensures)
-    ∙ vectors-done (a .how) (a .session .now) (a .vectors .now) (a .words .now) long (sym (ap (λ x. x .whole) (m .made-again .ensures)) ∙ not-false _ (d .before .before .before .if2 .left))
+    ∙ ap (λ x. manyDone (a .engine) (x .session) (a .session .now) (a .vectors .now) (a .words .now) (manyJudged (x .session) (a .vectors .now) (length (a .words .now)))) (m .made-again .ensures)
+    ∙ vectors-done (a .engine) (a .session .now) (a .vectors .now) (a .words .now) long (sym (ap (λ x. x .whole) (m .made-again .ensures)) ∙ not-false _ (d .before .before .before .if2 .left))
 
 pub host-vectors-spec : {M : Type 1} → statement M
 host-vectors-spec =

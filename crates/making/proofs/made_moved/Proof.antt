@@ -3,8 +3,9 @@ use mathlib.Core.Path.{sym, ap, subst, _∙_}
 use borrow.Author.Tests.{not-true, not-false}
 use Rattle.lists.proofs.Places.{part-of}
 use Rattle.session.specs.Good.{Good}
-use Rattle.session.specs.Moves.{restOf, vectorOf}
+use Rattle.session.specs.Moves.{restOf}
 use Rattle.session.proofs.Kept.{rest-good}
+use Rattle.moves.specs.Operated.{vectorBy}
 use Rattle.making.specs.Made.{madeBy}
 use Rattle.making.proofs.Making.{moved-not, moved-refused, moved-is}
 use borrow.Author.Needs.{needs}
@@ -18,7 +19,7 @@ broken-session-requires : tie.Need-broken-session-requires
 broken-session-requires c κs = search needs
 
 returns : tie.Need-returns
-returns c = let a = c .before .before .before .before .args in c .broken-session .ensures ∙ moved-not (a .b .now) (a .s) (sym (c .before .before .rooms-fit .ensures) ∙ not-true _ (c .before .if1 .taken))
+returns c = let a = c .before .before .before .before .args in c .broken-session .ensures ∙ moved-not (a .b .now) (a .s) (a .engine) (sym (c .before .before .rooms-fit .ensures) ∙ not-true _ (c .before .if1 .taken))
 
 add-rest : tie.Need-add-rest
 add-rest c = search needs
@@ -44,20 +45,20 @@ broken-session-requires-2 c κs = search needs
 enum-told-2 : tie.Need-enum-told-2
 enum-told-2 c = search needs
 
-add-vector : tie.Need-add-vector
-add-vector c = search needs
+add-vector-by : tie.Need-add-vector-by
+add-vector-by c = search needs
 
-sub-vector : tie.Need-sub-vector
-sub-vector c = search needs
+sub-vector-by : tie.Need-sub-vector-by
+sub-vector-by c = search needs
 
-part-vector-start : tie.Need-part-vector-start
-part-vector-start c = search needs
+part-vector-by-start : tie.Need-part-vector-by-start
+part-vector-by-start c = search needs
 
-part-vector-end : tie.Need-part-vector-end
-part-vector-end c = search needs
+part-vector-by-end : tie.Need-part-vector-by-end
+part-vector-by-end c = search needs
 
-vector-requires : tie.Need-vector-requires
-vector-requires c κs =
+vector-by-requires : tie.Need-vector-by-requires
+vector-by-requires c κs =
     let r = c .before .before .before .before in
     let start = r .before .before .before .before .before in
     subst (λ x. Good (x .session)) (sym (r .rest .ensures)) (rest-good (start .args .s) (start .pre .0 .0) _)
@@ -71,15 +72,15 @@ returns-2 c =
     let e = r .before .before in
     let a = e .before .before .before .args in
     c .broken-session2 .ensures
-    ∙ moved-refused (a .b .now) (a .s) (sym (e .before .rooms-fit .ensures) ∙ not-false _ (e .if1 .left)) (r .rest .result) (r .rest .ensures ∙ ap (restOf (a .s)) (part-of (a .b .now) 3 (a .s .inputs))) _ (c .before .enum-told .given .1)
+    ∙ moved-refused (a .b .now) (a .s) (a .engine) (sym (e .before .rooms-fit .ensures) ∙ not-false _ (e .if1 .left)) (r .rest .result) (r .rest .ensures ∙ ap (restOf (a .s)) (part-of (a .b .now) 3 (a .s .inputs))) _ (c .before .enum-told .given .1)
 
 returns-3 : tie.Need-returns-3
 returns-3 c =
     let r = c .before .before .before .before .before .before in
     let e = r .before .before in
     let a = e .before .before .before .args in
-    c .made-by .ensures ∙ ap madeBy (c .before .vector .ensures ∙ ap (vectorOf (r .rest .result .session)) (part-of (a .b .now) 259 (a .s .inputs)))
-    ∙ moved-is (a .b .now) (a .s) (sym (e .before .rooms-fit .ensures) ∙ not-false _ (e .if1 .left)) (r .rest .result) (r .rest .ensures ∙ ap (restOf (a .s)) (part-of (a .b .now) 3 (a .s .inputs))) _ (c .before .before .before .enum-told2 .given .1)
+    c .made-by .ensures ∙ ap madeBy (c .before .vector-by .ensures ∙ ap (vectorBy (a .engine) (r .rest .result .session)) (part-of (a .b .now) 259 (a .s .inputs)))
+    ∙ moved-is (a .b .now) (a .s) (a .engine) (sym (e .before .rooms-fit .ensures) ∙ not-false _ (e .if1 .left)) (r .rest .result) (r .rest .ensures ∙ ap (restOf (a .s)) (part-of (a .b .now) 3 (a .s .inputs))) _ (c .before .before .before .enum-told2 .given .1)
 
 pub made-moved-spec : {M : Type 1} → statement M
 made-moved-spec =
@@ -96,11 +97,11 @@ made-moved-spec =
     enum-told
     broken-session-requires-2
     enum-told-2
-    add-vector
-    sub-vector
-    part-vector-start
-    part-vector-end
-    vector-requires
+    add-vector-by
+    sub-vector-by
+    part-vector-by-start
+    part-vector-by-end
+    vector-by-requires
     made-by-requires
     returns-2
     returns-3)

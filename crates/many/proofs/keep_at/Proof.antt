@@ -32,7 +32,7 @@ returns : tie.Need-returns
 returns c =
     let k = c .before .before in
     let a = k .before .before .before .before .before .args in
-    k .keep-vector .ensures ∙ ap (keptVector (a .b .now)) (part-of (a .vectors .now) (a .j * a .n) (a .n))
+    k .keep-vector .ensures ∙ ap (keptVector (a .engine) (a .b .now)) (part-of (a .vectors .now) (a .j * a .n) (a .n))
 
 pub keep-at-spec : {M : Type 1} → statement M
 keep-at-spec =

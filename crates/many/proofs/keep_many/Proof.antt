@@ -10,7 +10,7 @@ use Rattle.many.proofs.keep_many.Statement.{statement}
 use Rattle.many.proofs.keep_many.Tie as tie
 
 returns : tie.Need-returns
-returns c = let a = c .before .before .before .args in kept-none (a .b .now) (a .vectors .now) (a .n) (a .k) (c .if1 .taken)
+returns c = let a = c .before .before .before .args in kept-none (a .engine) (a .b .now) (a .vectors .now) (a .n) (a .k) (c .if1 .taken)
 
 keep-at-requires : tie.Need-keep-at-requires
 keep-at-requires c κs =
@@ -25,7 +25,7 @@ returns-2 : tie.Need-returns-2
 returns-2 c =
     let t = c .before .before .before .before in
     let a = t .before .before .before .before .args in
-    c .before .before .keep-at .ensures ∙ kept-one (a .b .now) (a .vectors .now) (a .n) (a .k) (t .if2 .taken)
+    c .before .before .keep-at .ensures ∙ kept-one (a .engine) (a .b .now) (a .vectors .now) (a .n) (a .k) (t .if2 .taken)
 
 sub-keep-at : tie.Need-sub-keep-at
 sub-keep-at c = search needs
@@ -54,7 +54,7 @@ returns-3 c =
     let o = l .before .before .before .before in
     let t = o .before .before in
     let a = t .before .before .before .before .args in
-    l .keep-at3 .ensures ∙ ap (λ x. keptAt x (a .vectors .now) (a .n) (a .k - 1)) (o .keep-at2 .ensures) ∙ kept-two (a .b .now) (a .vectors .now) (a .n) (a .k) (t .before .if1 .left) (t .if2 .left)
+    l .keep-at3 .ensures ∙ ap (λ x. keptAt (a .engine) x (a .vectors .now) (a .n) (a .k - 1)) (o .keep-at2 .ensures) ∙ kept-two (a .engine) (a .b .now) (a .vectors .now) (a .n) (a .k) (t .before .if1 .left) (t .if2 .left)
 
 pub keep-many-spec : {M : Type 1} → statement M
 keep-many-spec =

@@ -1,168 +1,58 @@
--- `many::run_many` meets its contract. The loop's invariant: the words are those of the session that so many vectors leave, and theirs are put. The measure is what is left
--- of them. Assumes nothing.
-use mathlib.Core.Path.{_≡_, refl, sym, ap, subst, _∙_}
-use Prim.Native.Nat.{ℕ, _+_, _-_, _*_, _≤_, _<_}
-use native.Mathlib.Nat.{zero-mul}
-use native.Mathlib.Omega.{arith}
-use lib.ListN.{length, getD, take, drop}
+-- `many::run_many` meets its contract. Assumes nothing.
+use mathlib.Core.Path.{sym, ap, _∙_}
 use borrow.Author.Needs.{needs}
-use Rattle.lists.specs.Listed.{listed}
-use Rattle.lists.specs.Places.{part, area}
-use Rattle.lists.proofs.Places.{turn-next, turn-fits, part-of}
-use Rattle.inputs.specs.Inputs.{inputNets}
-use Rattle.inputs.proofs.Vectors.{rank-le}
-use Rattle.inputs.proofs.Nets.{nets-low}
-use Rattle.fields.specs.Fields.{advanced}
-use Rattle.card.specs.Held.{HasCard}
-use Rattle.card.proofs.Kept.{card-wires, card-fitting}
-use Rattle.session.proofs.Held.{gates-fit, gates-once, inputs-ranked}
-use Rattle.many.specs.Many.{manyBy, manyRun}
-use Rattle.many.proofs.Many.{many-more, many-length, many-vector, left-long, next-words}
+use Rattle.many.specs.Many.{manyBy}
+use Rattle.many.proofs.Many.{fields-count}
 use Rattle.many.proofs.run_many.Statement.{statement}
 use Rattle.many.proofs.run_many.Tie as tie
 
-abbrev Inv-loop : tie.InvT-loop
-Inv-loop vectors k room₀ s n nets inputs words₀ done₀ from₀ at₀ room words done from at =
-    (done ≤ k) × (from ≡ done * s .inputs) × (at ≡ done * s .nets) × (words ≡ manyRun s vectors (s .inputs) done room₀ .session .words) × (room ≡ manyRun s vectors (s .inputs) done room₀ .words)
+enum-told : tie.Need-enum-told
+enum-told c = search needs
 
-abbrev μ-loop : tie.MeasureT-loop
-μ-loop vectors k room₀ s n nets inputs words₀ done₀ from₀ at₀ room words done from at = k - done
+many-fields-requires : tie.Need-many-fields-requires
+many-fields-requires c κs = search needs
 
--- a rested session holds a card
-card : (c : tie.Start Inv-loop μ-loop) → HasCard (c .args .t1)
-card c = c .pre .0 .card (c .pre .0 .rest (c .pre .1 .0 .0) .0)
+enum-told-2 : tie.Need-enum-told-2
+enum-told-2 c = search needs
 
-input-nets-requires : tie.Need-input-nets-requires Inv-loop μ-loop
-input-nets-requires c κs = search needs
+many-steps-requires : tie.Need-many-steps-requires
+many-steps-requires c κs = search needs
 
-loop-holds : tie.Need-loop-holds Inv-loop μ-loop
-unfolding manyBy
-loop-holds c = let s = c .before .before .before .before .before .before .args .t1 in (omega arith, sym (zero-mul (s .inputs)), sym (zero-mul (s .nets)), refl, refl)
+same-length : tie.Need-same-length
+same-length c = search needs
 
--- the bytes of the next vector, and the room for its words, are there
-bytes-fit : (c : tie.In-loop Inv-loop μ-loop) → c .before .loop .done * c .before .before .before .before .before .before .before .before .args .t1 .inputs + c .before .before .before .before .before .before .before .before .args .t1 .inputs ≤ length (c .before .before .before .before .before .before .before .before .args .vectors .now)
-bytes-fit c = let a = c .before .before .before .before .before .before .before .before in turn-fits (c .before .loop .done) (a .args .k) (a .args .t1 .inputs) _ (c .loop-test .taken) (a .pre .1 .1 .0)
-
-bytes-there : (c : tie.In-loop Inv-loop μ-loop) → c .before .loop .from + c .before .before .before .before .before .before .before .before .args .t1 .inputs ≤ length (c .before .before .before .before .before .before .before .before .args .vectors .now)
-bytes-there c = subst (λ x. x + c .before .before .before .before .before .before .before .before .args .t1 .inputs ≤ length (c .before .before .before .before .before .before .before .before .args .vectors .now)) (sym (c .before .loop .inv .1)) (bytes-fit c)
-
-words-there : (c : tie.In-loop Inv-loop μ-loop) → c .before .loop .at + c .before .before .before .before .before .before .before .before .args .t1 .nets ≤ length (c .before .before .before .before .before .before .before .before .args .room .now)
-words-there c =
-    let l = c .before .loop in
-    let a = c .before .before .before .before .before .before .before .before in
-    subst (λ x. x + a .args .t1 .nets ≤ length (a .args .room .now)) (sym (l .inv .2)) (turn-fits (l .done) (a .args .k) (a .args .t1 .nets) _ (c .loop-test .taken) (a .pre .1 .1 .2))
-
-room-there : (c : tie.In-loop Inv-loop μ-loop) → c .before .loop .at + c .before .before .before .before .before .before .before .before .args .t1 .nets ≤ length (c .before .loop .room)
-room-there c =
-    let l = c .before .loop in
-    let a = c .before .before .before .before .before .before .before .before .args in
-    let same : length (l .room) ≡ length (a .room .now) = ap length (l .inv .4) ∙ many-length (a .t1) (a .vectors .now) (a .t1 .inputs) (l .done) (a .room .now) in
-    subst (λ x. l .at + a .t1 .nets ≤ x) (sym same) (words-there c)
-
--- the bytes that are lent are the next vector's
-bytes-are : (c : tie.In-loop Inv-loop μ-loop)
-    → (let x = c .before .loop .from in take (x + c .before .before .before .before .before .before .before .before .args .t1 .inputs - x) (drop x (c .before .before .before .before .before .before .before .before .args .vectors .now))) ≡ part (c .before .before .before .before .before .before .before .before .args .vectors .now) (c .before .loop .done * c .before .before .before .before .before .before .before .before .args .t1 .inputs) (c .before .before .before .before .before .before .before .before .args .t1 .inputs)
-bytes-are c =
-    let a = c .before .before .before .before .before .before .before .before .args in
-    let n = a .t1 .inputs in
-    ap (λ x. take (x + n - x) (drop x (a .vectors .now))) (c .before .loop .inv .1) ∙ part-of (a .vectors .now) (c .before .loop .done * n) n
-
--- the inputs' nets are nets
-low : (c : tie.In-loop Inv-loop μ-loop) → (j : ℕ) → getD (c .before .before .before .input-nets .result) j 0 < 256
-low c j =
-    let s = c .before .before .before .before .before .before .before .before .args .t1 in
-    subst (λ ns. getD ns j 0 < 256) (sym (c .before .before .before .input-nets .ensures)) (nets-low (s .kinds) 256 j (omega arith))
-
-add-advance : tie.Need-add-advance Inv-loop μ-loop
-add-advance c = let b = bytes-there (c .before .before .before .before .before .before .before) in search needs
-
-sub-advance : tie.Need-sub-advance Inv-loop μ-loop
-sub-advance c = search needs
-
-part-advance-start : tie.Need-part-advance-start Inv-loop μ-loop
-part-advance-start c = search needs
-
-part-advance-end : tie.Need-part-advance-end Inv-loop μ-loop
-part-advance-end c = let b = bytes-there (c .before .before .before .before .before .before .before) in search needs
-
-advance-requires : tie.Need-advance-requires Inv-loop μ-loop
-advance-requires c κs =
-    let i = c .before .before .before .before .before .before .before .before in
-    let l = i .before .loop in
-    let a = i .before .before .before .before .before .before .before .before in
-    let s = a .args .t1 in
-    let h = card a in
-    let fits = bytes-fit i in
-    let size = ap length (bytes-are i) ∙ many-vector (a .args .vectors .now) (s .inputs) (l .done) (a .pre .1 .0 .1) fits .size ∙ inputs-ranked s h in
-    let long = ap length (l .inv .3) ∙ left-long s (a .pre .0) (a .pre .1 .0 .0) (a .args .vectors .now) (a .args .room .now) (a .pre .1 .0 .1) (l .done) (omega (arith, fits)) in
-    (card-wires s h, (card-fitting s h, (gates-fit s h, (gates-once s h, (subst (λ k. k ≤ 256) (sym size) (rank-le (s .kinds) 256), low i, long)))))
-
-put-words-requires : tie.Need-put-words-requires Inv-loop μ-loop
-put-words-requires c κs = (c .before .before .before .before .before .before .before .before .before .before .before .before .before .before .before .before .before .before .before .pre .1 .1 .1, room-there (c .before .before .before .before .before .before .before .before .before .before .before))
-
-add-done : tie.Need-add-done Inv-loop μ-loop
-add-done c = search needs
-
-add-from : tie.Need-add-from Inv-loop μ-loop
-add-from c = let b = bytes-there (c .before .before .before .before .before .before .before .before .before .before .before .before .before .before) in search needs
-
-add-at : tie.Need-add-at Inv-loop μ-loop
-add-at c = let b = words-there (c .before .before .before .before .before .before .before .before .before .before .before .before .before .before) in search needs
-
-loop-less : tie.Need-loop-less Inv-loop μ-loop
-loop-less c = search needs
-
-loop-again : tie.Need-loop-again Inv-loop μ-loop
-loop-again c =
-    let i = c .before .before .before .before .before .before .before .before .before .before .before .before .before .before in
-    let l = i .before .loop in
-    let a = i .before .before .before .before .before .before .before .before in
-    let s = a .args .t1 in
-    let vs = a .args .vectors .now in
-    let room = a .args .room .now in
-    let order = listed (λ k. getD (s .order) k 0) (s .gates) in
-    let next =
-    c .before .before .before .before .before .advance .ensures
-    ∙ ap (advanced (i .before .before .before .input-nets .result) (s .types) (s .counts) (s .places) order (l .words)) (bytes-are i)
-    ∙ ap (λ ns. advanced ns (s .types) (s .counts) (s .places) order (l .words) (part vs (l .done * s .inputs) (s .inputs))) (i .before .before .before .input-nets .ensures)
-    ∙ ap (λ ws. advanced (inputNets (s .kinds) 256) (s .types) (s .counts) (s .places) order ws (part vs (l .done * s .inputs) (s .inputs))) (l .inv .3)
-    ∙ next-words s (a .pre .0) (a .pre .1 .0 .0) vs room (a .pre .1 .0 .1) (l .done) (bytes-fit i) in
-    let more = many-more s vs (s .inputs) (l .done) room in (
-      omega (arith, i .loop-test .taken),
-      ap (λ x. x + s .inputs) (l .inv .1) ∙ turn-next (l .done) (s .inputs),
-      ap (λ x. x + s .nets) (l .inv .2) ∙ turn-next (l .done) (s .nets),
-      next ∙ sym (ap (λ x. x .session .words) more),
-      c .before .before .put-words .ensures ∙ (λ z. area (l .inv .4 z) (l .inv .2 z) (l .inv .2 z + s .nets) (next z)) ∙ sym (ap (λ x. x .words) more),
+returns : tie.Need-returns
+returns c =
+    let told = c .before .before .before .before in
+    let start = told .before .before .before .before in
+    let a = start .args in
+    let e = sym (told .enum-told .given .1) in
+    let count = fields-count (a .s) (start .pre .0) (start .pre .1 .0 .0) (a .vectors .now) (a .room .now) (start .pre .1 .0 .1) (a .k) (start .pre .1 .1 .0) in (
+      c .before .before .many-fields .ensures ∙ ap (λ h. manyBy h (a .s) (a .vectors .now) (a .s .inputs) (a .k) (a .room .now) .words) e,
+      sym count ∙ ap (λ h. manyBy h (a .s) (a .vectors .now) (a .s .inputs) (a .k) (a .room .now) .count) e,
     )
 
-same-length : tie.Need-same-length Inv-loop μ-loop
-same-length c = let l = c .before .loop in let a = c .before .before .before .before .before .before .before .before .args in ap length (l .inv .4) ∙ many-length (a .t1) (a .vectors .now) (a .t1 .inputs) (l .done) (a .room .now)
+same-length-2 : tie.Need-same-length-2
+same-length-2 c = search needs
 
-returns : tie.Need-returns Inv-loop μ-loop
-returns c =
-    let l = c .before .loop in
-    let a = c .before .before .before .before .before .before .before .before .args in
-    let e : l .done ≡ a .k = omega (arith, l .inv .0, c .loop-test .left) in
-    l .inv .4 ∙ ap (λ j. manyRun (a .t1) (a .vectors .now) (a .t1 .inputs) j (a .room .now) .words) e
+returns-2 : tie.Need-returns-2
+returns-2 c =
+    let told = c .before .before .before .before in
+    let a = told .before .before .before .before .args in
+    let e = sym (told .enum-told2 .given .1) in (
+      c .before .before .many-steps .ensures .0 ∙ ap (λ h. manyBy h (a .s) (a .vectors .now) (a .s .inputs) (a .k) (a .room .now) .words) e,
+      c .before .before .many-steps .ensures .1 ∙ ap (λ h. manyBy h (a .s) (a .vectors .now) (a .s .inputs) (a .k) (a .room .now) .count) e,
+    )
 
 pub run-many-spec : {M : Type 1} → statement M
 run-many-spec =
     tie.close
     (tie.spec
-    Inv-loop
-    μ-loop
-    input-nets-requires
-    loop-holds
-    add-advance
-    sub-advance
-    part-advance-start
-    part-advance-end
-    advance-requires
-    put-words-requires
-    add-done
-    add-from
-    add-at
-    loop-less
-    loop-again
+    enum-told
+    many-fields-requires
+    enum-told-2
+    many-steps-requires
     same-length
-    returns)
+    returns
+    same-length-2
+    returns-2)

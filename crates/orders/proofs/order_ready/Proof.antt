@@ -67,7 +67,7 @@ reads-done-requires c κs =
     let e = entry (c .before .before .before .before .before) in
     let g = c .before .before .before .wide162 .ensures in
     let t = c .before .narrow .ensures in
-    (s .pre .0, (s .pre .1 .0, (omega (arith, e .net), omega (arith, e .early))))
+    (s .pre .0, (s .pre .1 .0, omega (arith, e .net)))
 
 returns : tie.Need-returns Inv-loop μ-loop
 returns c =
@@ -85,7 +85,7 @@ array-read-put : tie.Need-array-read-put Inv-loop μ-loop
 array-read-put c = placed c
 
 put-requires : tie.Need-put-requires Inv-loop μ-loop
-put-requires c κs = let t = c .before .before .before .narrow .ensures in omega (arith, entry (c .before .before .before .before .before .before .before) .late)
+put-requires c κs = let t = c .before .before .before .narrow .ensures in omega (arith, entry (c .before .before .before .before .before .before .before) .time)
 
 mul-done : tie.Need-mul-done Inv-loop μ-loop
 mul-done c = let h = placed (c .before) in search needs

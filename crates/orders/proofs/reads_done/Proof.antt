@@ -48,7 +48,7 @@ read-at-requires : tie.Need-read-at-requires Inv-loop μ-loop
 read-at-requires c κs =
     let s = c .before .before .before .before .before in
     let e = c .before .before .before .wide .ensures in
-    (s .pre .1 .1 .1, pin-fitting (s .args .counts .now) (s .args .places .now) (s .args .n) (s .args .g) (c .before .before .loop .j) (s .pre .0) (s .pre .1 .0) (omega arith))
+    pin-fitting (s .args .counts .now) (s .args .places .now) (s .args .n) (s .args .g) (c .before .before .loop .j) (s .pre .0) (s .pre .1 .0) (omega arith)
 
 returns : tie.Need-returns Inv-loop μ-loop
 returns c =

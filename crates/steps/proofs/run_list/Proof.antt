@@ -45,7 +45,7 @@ step-requires c κs =
     let l = c .before .before .before .before .before .before .loop in
     let g = c .before .before .wide16 in
     let d = doable-at (s .args .types .now) (s .args .counts .now) (numbered (s .args .nets .now) (s .args .times .now)) (s .args .total) (l .done) (g .result) (c .narrow .result) (s .pre .1 .1 .1) (omega arith) (g .ensures) (c .narrow .ensures) in
-    (s .pre .0, (s .pre .1 .0, (d .0, (d .1, d .2, l .inv .1))))
+    (s .pre .0, (s .pre .1 .0, (d .0, (d .1, l .inv .1))))
 
 add-done : tie.Need-add-done Inv-loop μ-loop
 add-done c = search needs

@@ -65,7 +65,7 @@ step-requires c κs =
     let g = c .before .before .wide162 in
     let d = doable-at (a .types .now) (a .counts .now) (λ i. numbered (a .nets .now) (a .times .now) (getD (a .order .now) i 0)) (a .k) (l .i) (g .result) (c .narrow .result) (s .pre .1 .1 .1) (omega arith)
     (g .ensures ∙ ap (λ x. getD (a .nets .now) x 0) e) (c .narrow .ensures ∙ ap (λ x. getD (a .times .now) x 0) e) in
-    (s .pre .0, (s .pre .1 .0, (d .0, (d .1, d .2, l .inv .1))))
+    (s .pre .0, (s .pre .1 .0, (d .0, (d .1, l .inv .1))))
 
 add-i : tie.Need-add-i Inv-loop μ-loop
 add-i c = search needs

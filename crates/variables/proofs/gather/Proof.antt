@@ -45,11 +45,9 @@ read-at-requires : tie.Need-read-at-requires Inv-loop μ-loop
 read-at-requires c κs =
     let s = c .before .before .before .before in
     let a = s .args in
-    let first : a .g * 8 + 0 ≡ a .g * 8 = omega arith in (
-      s .pre .1 .1 .1,
-      subst (λ k. (getD (a .places .now) k 0 < 256) ⊎ (getD (a .places .now) k 0 ≡ openPin)) first
-          (pin-fitting (a .counts .now) (a .places .now) (a .n) (a .g) 0 (s .pre .0) (s .pre .1 .0) (s .pre .1 .1 .2)),
-    )
+    let first : a .g * 8 + 0 ≡ a .g * 8 = omega arith in
+    subst (λ k. (getD (a .places .now) k 0 < 256) ⊎ (getD (a .places .now) k 0 ≡ openPin)) first
+    (pin-fitting (a .counts .now) (a .places .now) (a .n) (a .g) 0 (s .pre .0) (s .pre .1 .0) (s .pre .1 .1 .1))
 
 loop-holds : tie.Need-loop-holds Inv-loop μ-loop
 loop-holds c =
@@ -60,7 +58,7 @@ loop-holds c =
     let value =
     c .read-at .ensures
     ∙ ap₂ (λ loose k. heldIn loose (a .vars .now) (readIn (a .sets .now) (a .t) (getD (a .places .now) k 0))) (c .before .before .open-value .ensures) first in
-    (omega (arith, e, s .pre .1 .1 .2), omega (arith, s .pre .0 .narrow (a .g)), value ∙ by-first (a .ty) (pin (a .vars .now) (a .places .now) (a .sets .now) (a .g) (a .t)))
+    (omega (arith, e, s .pre .1 .1 .1), omega (arith, s .pre .0 .narrow (a .g)), value ∙ by-first (a .ty) (pin (a .vars .now) (a .places .now) (a .sets .now) (a .g) (a .t)))
 
 mul-read-at-3 : tie.Need-mul-read-at-3 Inv-loop μ-loop
 mul-read-at-3 c = search needs
@@ -78,10 +76,10 @@ read-at-requires-2 : tie.Need-read-at-requires-2 Inv-loop μ-loop
 read-at-requires-2 c κs =
     let s = c .before .before .before .before .before .before .before .before in
     let e = c .before .before .before .before .before .before .wide .ensures in
-    (s .pre .1 .1 .1, pin-fitting (s .args .counts .now) (s .args .places .now) (s .args .n) (s .args .g) (c .before .before .loop .j) (s .pre .0) (s .pre .1 .0) (omega arith))
+    pin-fitting (s .args .counts .now) (s .args .places .now) (s .args .n) (s .args .g) (c .before .before .loop .j) (s .pre .0) (s .pre .1 .0) (omega arith)
 
 with-bit-requires : tie.Need-with-bit-requires Inv-loop μ-loop
-with-bit-requires c κs = c .before .before .before .before .before .before .before .before .before .pre .1 .1 .3
+with-bit-requires c κs = c .before .before .before .before .before .before .before .before .before .pre .1 .1 .2
 
 add-j : tie.Need-add-j Inv-loop μ-loop
 add-j c = search needs

@@ -9,7 +9,7 @@ use Rattle.variables.proofs.read_at.Tie as tie
 -- a pin that is not open names a net
 below : (c : tie.After-wide16) → c .wide16 .result < 256
 unfolding openPin
-below c = pin-names (c .before .before .args .p) (c .wide16 .result) (c .before .before .pre .1) (c .before .if1 .left) (c .wide16 .ensures)
+below c = pin-names (c .before .before .args .p) (c .wide16 .result) (c .before .before .pre) (c .before .if1 .left) (c .wide16 .ensures)
 
 returns : tie.Need-returns
 unfolding openPin
@@ -43,7 +43,7 @@ returns-2 : tie.Need-returns-2
 unfolding openPin
 returns-2 c =
     let a = c .before .before .before .before .before .before .before .args in
-    read-net (a .loose) (a .words .now) (a .sets .now) (a .t) (a .p) _ _ _ _ (c .before .before .before .before .before .before .before .pre .0) (c .before .before .before .before .before .before .if1 .left) (c .before .before .before .before .before .wide16 .ensures)
+    read-net (a .loose) (a .words .now) (a .sets .now) (a .t) (a .p) _ _ _ _ (c .before .before .before .before .before .before .if1 .left) (c .before .before .before .before .before .wide16 .ensures)
     (c .before .before .with-zero .ensures) (c .before .largest-below .ensures) (c .has .ensures)
 
 pub read-at-spec : {M : Type 1} → statement M

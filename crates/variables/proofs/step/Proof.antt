@@ -16,7 +16,7 @@ rule-of-requires : tie.Need-rule-of-requires
 rule-of-requires c κs = omega (arith, c .wide .ensures, c .before .before .pre .1 .1 .0 .type)
 
 gather-requires : tie.Need-gather-requires
-gather-requires c κs = let s = c .before .before .before .before in (s .pre .0, (s .pre .1 .0, (s .pre .1 .1 .0 .net, s .pre .1 .1 .1 .0, s .pre .1 .1 .0 .pinned, c .before .rule-of .ensures .0)))
+gather-requires c κs = let s = c .before .before .before .before in (s .pre .0, (s .pre .1 .0, (s .pre .1 .1 .0 .net, s .pre .1 .1 .0 .pinned, c .before .rule-of .ensures .0)))
 
 gate-bit-requires : tie.Need-gate-bit-requires
 gate-bit-requires c κs = search needs
@@ -45,7 +45,7 @@ returns c =
     let all = c .before .before .before .gather in
     let b = c .before .before .gate-bit in
     step-made (a .types .now) (a .counts .now) (a .places .now) (a .sets .now) (a .vars .now) (a .g) (a .t)
-    (c .put .result) (b .result) (s .pre .1 .1 .0 .net) (s .pre .1 .1 .1 .2)
+    (c .put .result) (b .result) (s .pre .1 .1 .0 .net) (s .pre .1 .1 .1 .1)
     (value-made (a .vars .now) (a .counts .now) (a .places .now) (a .sets .now) (a .g) (a .t) (a .types .now) (ty .result) (rule .result .inversion) (all .result) (b .result) (s .pre .1 .1 .0) (ty .ensures) (rule .ensures .1) (all .ensures) (b .ensures))
     (omega (arith, c .put .ok)) (c .put .ensures)
 

@@ -1,6 +1,6 @@
 -- `wiring::pcsets` meets its contract. The loop's invariant: the sets are those along the first i gates. The measure is what is left of
 -- the gates. Assumes nothing.
-use mathlib.Core.Path.{_≡_}
+use mathlib.Core.Path.{_≡_, _∙_}
 use Prim.Native.Nat.{ℕ, _-_, _≤_, _<_}
 use native.Mathlib.Omega.{arith}
 use lib.ListN.{getD}
@@ -12,17 +12,20 @@ use Rattle.wiring.proofs.pcsets.Statement.{statement}
 use Rattle.wiring.proofs.pcsets.Tie as tie
 
 abbrev Inv-loop : tie.InvT-loop
-Inv-loop counts places n order gates sets₀ i₀ sets i = (i ≤ gates) × (sets ≡ setsAlong counts places (listed (λ (k : ℕ). getD order k 0) i))
+Inv-loop counts places n order gates sets₀ i₀ sets i = (i ≤ gates) × (sets ≡ setsAlong counts places n (listed (λ (k : ℕ). getD order k 0) i))
 
 abbrev μ-loop : tie.MeasureT-loop
 μ-loop counts places n order gates sets₀ i₀ sets i = gates - i
 
 -- the gate that is read is a net
 below : (c : tie.After-wide16 Inv-loop μ-loop) → c .wide16 .result < 256
-below c = let e = c .wide16 .ensures in omega (arith, c .before .before .before .before .pre .1 .1 .1 (c .before .before .before .loop .i))
+below c = let e = c .wide16 .ensures in omega (arith, c .before .before .before .before .before .pre .1 .1 .1 (c .before .before .before .loop .i))
+
+source-sets-requires : tie.Need-source-sets-requires Inv-loop μ-loop
+source-sets-requires c κs = search needs
 
 loop-holds : tie.Need-loop-holds Inv-loop μ-loop
-loop-holds c = (omega arith, along-none (c .args .counts .now) (c .args .places .now) _)
+loop-holds c = let a = c .before .args in (omega arith, c .source-sets .ensures ∙ along-none (a .counts .now) (a .places .now) (a .n) _)
 
 mul-wide16 : tie.Need-mul-wide16 Inv-loop μ-loop
 mul-wide16 c = search needs
@@ -35,7 +38,7 @@ wide16-requires c κs = search needs
 
 set-of-requires : tie.Need-set-of-requires Inv-loop μ-loop
 set-of-requires c κs =
-    let s = c .before .before .before .before .before in
+    let s = c .before .before .before .before .before .before in
     (s .pre .0, (s .pre .1 .0, below (c .before)))
 
 mul-sets : tie.Need-mul-sets Inv-loop μ-loop
@@ -52,7 +55,7 @@ loop-less c = search needs
 
 loop-again : tie.Need-loop-again Inv-loop μ-loop
 loop-again c =
-    let s = c .before .before .before .before .before .before in
+    let s = c .before .before .before .before .before .before .before in
     let l = c .before .before .before .before .before .loop in (
       omega arith,
       along-more (s .args .counts .now) (s .args .places .now) (s .args .n) (s .pre .0 .few) (s .pre .1 .0) (λ k. getD (s .args .order .now) k 0) (s .pre .1 .1 .1) (l .i) _ _ _ (c .before .before .wide16 .ensures) (l .inv .1) (c .set-of .ensures),
@@ -60,7 +63,7 @@ loop-again c =
 
 returns : tie.Need-returns Inv-loop μ-loop
 returns c =
-    let e : c .before .loop .i ≡ c .before .before .args .gates = omega arith in
+    let e : c .before .loop .i ≡ c .before .before .before .args .gates = omega arith in
     rw e at (c .before .loop .inv .1)
 
 pub pcsets-spec : {M : Type 1} → statement M
@@ -69,6 +72,7 @@ pcsets-spec =
     (tie.spec
     Inv-loop
     μ-loop
+    source-sets-requires
     loop-holds
     mul-wide16
     element-copy-out-wide16

@@ -1,5 +1,4 @@
--- `wiring::wire` meets its contract: each test that the code makes is a test of the judgement over the arrays, which is the card's for
--- every card that is laid out there. Assumes nothing.
+-- `wiring::wire` meets its contract: each test that the code makes is a test of the judgement over the arrays. Assumes nothing.
 use mathlib.Core.Path.{_≡_, sym, _∙_}
 use mathlib.Core.Bool.{true}
 use native.Mathlib.Omega.{arith}
@@ -7,7 +6,7 @@ use borrow.Author.Needs.{needs}
 use borrow.Author.Tests.{not-true, not-false}
 use Rattle.wiring.specs.Wires.{Fitting, allFit}
 use Rattle.wiring.proofs.Pins.{fitting}
-use Rattle.wiring.proofs.Judged.{Levelled, wired-unfit, wired-looped, wired-deep, wired-sets, judged}
+use Rattle.wiring.proofs.Judged.{Levelled, wired-unfit, wired-looped, wired-deep, wired-sets}
 use Rattle.wiring.proofs.wire.Statement.{statement}
 use Rattle.wiring.proofs.wire.Tie as tie
 
@@ -30,7 +29,7 @@ refused-requires c κs = search needs
 returns : tie.Need-returns
 returns c =
     let s = c .before .before .before in
-    judged (c .refused .ensures ∙ wired-unfit (s .args .counts .now) (s .args .places .now) (s .args .n) (sym (c .before .before .all-fit .ensures) ∙ not-true _ (c .before .if1 .taken)))
+    c .refused .ensures ∙ wired-unfit (s .args .counts .now) (s .args .places .now) (s .args .n) (sym (c .before .before .all-fit .ensures) ∙ not-true _ (c .before .if1 .taken))
 
 gates-back-requires : tie.Need-gates-back-requires
 gates-back-requires c κs = (c .before .before .pre, fits c)
@@ -42,19 +41,19 @@ refused-requires-2 : tie.Need-refused-requires-2
 refused-requires-2 c κs = search needs
 
 returns-2 : tie.Need-returns-2
-returns-2 c = judged (c .refused2 .ensures ∙ wired-looped (levelled (c .before .before)) (omega arith))
+returns-2 c = c .refused2 .ensures ∙ wired-looped (levelled (c .before .before)) (omega arith)
 
 refused-requires-3 : tie.Need-refused-requires-3
 refused-requires-3 c κs = search needs
 
 returns-3 : tie.Need-returns-3
-returns-3 c = judged (c .refused3 .ensures ∙ wired-deep (levelled (c .before .before .before)) (omega arith) (omega arith))
+returns-3 c = c .refused3 .ensures ∙ wired-deep (levelled (c .before .before .before)) (omega arith) (omega arith)
 
 with-sets-requires : tie.Need-with-sets-requires
 with-sets-requires c κs = let e = c .before .before .before .before .before .before in (e .before .before .pre, (fits e, omega arith))
 
 returns-4 : tie.Need-returns-4
-returns-4 c = judged (c .with-sets .ensures ∙ wired-sets (levelled (c .before .before .before .before)) (omega arith) (omega arith))
+returns-4 c = c .with-sets .ensures ∙ wired-sets (levelled (c .before .before .before .before)) (omega arith) (omega arith)
 
 pub wire-spec : {M : Type 1} → statement M
 wire-spec =

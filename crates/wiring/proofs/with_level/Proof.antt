@@ -2,12 +2,15 @@
 -- measure is what is left of n. Assumes nothing.
 use mathlib.Core.Path.{_≡_, sym, ap, _∙_}
 use mathlib.Core.List.{_++_, append-nil}
-use Prim.Native.Nat.{_-_, _≤_}
+use Prim.Native.Nat.{_-_, _≤_, _<_}
 use native.Mathlib.Omega.{arith}
+use lib.Dec.{eqb}
+use lib.ListN.{getD}
 use borrow.Author.Needs.{needs}
+use borrow.Author.Tests.{eqb-true}
 use Rattle.wiring.specs.Wires.{row, orderOf}
 use Rattle.wiring.specs.Wired.{ordered}
-use Rattle.wiring.proofs.Orders.{row-more, order-more, order-room}
+use Rattle.wiring.proofs.Orders.{row-more, order-more, order-room, ordered-more}
 use Rattle.wiring.proofs.with_level.Statement.{statement}
 use Rattle.wiring.proofs.with_level.Tie as tie
 
@@ -26,11 +29,16 @@ mul-with-net c = search needs
 element-copy-out-with-net : tie.Need-element-copy-out-with-net Inv-loop μ-loop
 element-copy-out-with-net c = search needs
 
-with-net-requires : tie.Need-with-net-requires Inv-loop μ-loop
-with-net-requires c κs =
+-- there is room for a net of level l
+room : (c : tie.After-with-net-arg Inv-loop μ-loop) → (let l = c .before .before .loop in let a = c .before .before .before .args in getD (a .levels .now) (l .g) 0 ≡ a .l → l .next .gates < 256)
+room c e =
     let s = c .before .before .before in
     let l = c .before .before .loop in
-    (omega arith, λ e. let room = order-room (s .args .levels .now) (s .args .n) (s .args .l) (l .g) (s .pre .1) (omega arith) e in omega (arith, ap (λ o. o .gates) (l .inv .1)))
+    let fits = order-room (s .args .levels .now) (s .args .n) (s .args .l) (l .g) (s .pre .1) (omega arith) e in
+    omega (arith, ap (λ o. o .gates) (l .inv .1))
+
+with-net-requires : tie.Need-with-net-requires Inv-loop μ-loop
+with-net-requires c κs = (omega arith, room c)
 
 add-g : tie.Need-add-g Inv-loop μ-loop
 add-g c = search needs
@@ -43,7 +51,9 @@ loop-again c =
     let s = c .before .before .before .before in
     let l = c .before .before .before .loop in
     let xs = orderOf (s .args .levels .now) (s .args .n) (s .args .l - 1) in
-    (omega arith, c .with-net .ensures (xs ++ row (s .args .levels .now) (l .g) (s .args .l)) (l .inv .1) ∙ ap ordered (sym (row-more (s .args .levels .now) xs (l .g) (s .args .l))))
+    let so-far = xs ++ row (s .args .levels .now) (l .g) (s .args .l) in
+    let level = getD (s .args .levels .now) (l .g) 0 in
+    (omega arith, c .with-net .ensures ∙ ordered-more (l .next) so-far (eqb level (s .args .l)) (l .g) (l .inv .1) (λ e. room (c .before) (eqb-true level (s .args .l) e)) ∙ ap ordered (sym (row-more (s .args .levels .now) xs (l .g) (s .args .l))))
 
 returns : tie.Need-returns Inv-loop μ-loop
 returns c =

@@ -1,14 +1,14 @@
 -- `wiring::with_net` meets its contract: a net of level l is stored at the end, and any other leaves the order. Assumes nothing.
-use mathlib.Core.List.{append-nil}
+use mathlib.Core.Path.{sym, ap}
 use native.Mathlib.Omega.{arith}
 use borrow.Author.Needs.{needs}
 use borrow.Author.Tests.{eq-eqb, ne-eqb}
-use Rattle.wiring.proofs.Orders.{ordered-more}
+use Rattle.wiring.specs.Wired.{ending}
 use Rattle.wiring.proofs.with_net.Statement.{statement}
 use Rattle.wiring.proofs.with_net.Tie as tie
 
 returns : tie.Need-returns
-returns c = λ xs e. rw (ne-eqb (c .before .args .level) (c .before .args .l) (c .if1 .taken), append-nil xs) e
+returns c = let a = c .before .args in ap (λ b. ending (a .order) b (a .g)) (sym (ne-eqb (a .level) (a .l) (c .if1 .taken)))
 
 cast-next : tie.Need-cast-next
 cast-next c = search needs
@@ -23,8 +23,7 @@ add-next : tie.Need-add-next
 add-next c = let l = c .before .pre .1 (c .if1 .left) in omega arith
 
 returns-2 : tie.Need-returns-2
-returns-2 c = λ xs e. rw (eq-eqb (c .before .args .level) (c .before .args .l) (c .if1 .left)) (ordered-more (c .before .args .order) xs (c .before .args .g) e (c .before .pre .1 (c .if1 .left)))
+returns-2 c = let a = c .before .args in ap (λ b. ending (a .order) b (a .g)) (sym (eq-eqb (a .level) (a .l) (c .if1 .left)))
 
 pub with-net-spec : {M : Type 1} → statement M
-with-net-spec =
-    tie.close (tie.spec returns cast-next mul-next element-write-next add-next returns-2)
+with-net-spec = tie.close (tie.spec returns cast-next mul-next element-write-next add-next returns-2)

@@ -24,10 +24,10 @@ back c = ordered-back (c .before .args .levels .now) (c .before .args .n) (c .be
 
 along : (c : tie.After-steps-of)
     → let b = c .before .before .before .before .before .before in
-    Along (b .before .args .counts .now) (b .before .args .places .now) (gates b) (b .by-level .result) (c .before .before .before .pcsets .result) (c .steps-of .result)
+    Along (b .before .args .counts .now) (b .before .args .places .now) (b .before .args .n) (gates b) (b .by-level .result) (c .before .before .before .pcsets .result) (c .steps-of .result)
 along c =
     let b = c .before .before .before .before .before .before in
-    record { ordering = b .by-level .ensures; made = c .before .before .before .pcsets .ensures ∙ ap (setsAlong _ _) (back b); counted = c .steps-of .ensures ∙ ap (sizesOf _) (back b) }
+    record { ordering = b .by-level .ensures; made = c .before .before .before .pcsets .ensures ∙ ap (setsAlong _ _ _) (back b); counted = c .steps-of .ensures ∙ ap (sizesOf _) (back b) }
 
 by-level-requires : tie.Need-by-level-requires
 by-level-requires c κs = search needs

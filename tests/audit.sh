@@ -1,0 +1,46 @@
+#!/usr/bin/env bash
+# What the documents say of functions, definitions, laws and edits is so; and in a copy with a fault of each kind the same test finds it.
+# needs: python3
+set -euo pipefail
+cd "$(dirname "$0")/.."
+python3 tests/audit_test.py .
+
+room=$(mktemp -d)
+trap 'rm -rf "$room"' EXIT
+
+# seeded FILE SED EXPECTED: with that change the test fails and says so
+seen=0
+seeded() {
+    rm -rf "$room"/*
+    mkdir "$room/crates"
+    cp -r docs crates.txt host tests speed examples "$room"
+    for crate in crates/*; do
+        mkdir "$room/$crate"
+        for part in src specs proofs must-fail; do
+            if [ -d "$crate/$part" ]; then cp -r "$crate/$part" "$room/$crate/$part"; fi
+        done
+    done
+    sed -i "$2" "$room/$1"
+    ! cmp -s "$1" "$room/$1" || { echo "audit: $2 changes nothing in $1" >&2; return 1; }
+    if python3 tests/audit_test.py "$room" >"$room/out"; then echo "audit: $2 in $1 was not found" >&2; return 1; fi
+    grep -qF "$3" "$room/out" || { echo "audit: $2 in $1 was not found as '$3'" >&2; return 1; }
+    seen=$((seen + 1))
+}
+seeded crates/rule/specs/Flag.antt 's/^unfoldable pub flagOf/unfoldable pub flagIs/' 'does not have flagIs (rule/specs/Flag.antt)'
+seeded crates/rule/specs/Flag.antt '$ a pub flagIs : ℕ' 'rule/specs/Flag.antt defines flagIs in another way'
+seeded crates/rule/specs/Flag.antt '$ a abbrev flagIs : ℕ' 'rule/specs/Flag.antt defines flagIs in another way'
+seeded docs/AUDIT.md 's/`flagOf` | Flag.antt/`flagOf`, `flagIs` | Flag.antt/' 'has flagIs, which rule/specs/Flag.antt does not define'
+seeded docs/AUDIT.md 's/`loaded-good`/`rested-before`/' 'there is no rested-before'
+seeded docs/AUDIT.md 's/`loaded-good`/`demand-1`/' 'session/proofs/Witness.antt does not define demand-1'
+seeded docs/AUDIT.md 's/ functions have no `ensures`/1&/' 'functions have no ensures'
+seeded crates/many/src/lib.rt 's/^ *keep_at(.*);$//' 'many::keep_at asks something'
+seeded crates/card/src/lib.rt 's/^pub fn ask_net/pub fn size/' 'card::size asks something'
+seeded crates/host/src/lib.rt '0,/^    ensures.*hostMove Load/s//    requires { ⌜ 0 < 1 ⌝ }\n&/' 'host::krasvome_load begins a chain of calls and asks something'
+seeded crates/card/src/lib.rt '/^ *ensures.*netAsked/d' 'card::ask_net is in no program and has no ensures'
+seeded crates/demands/proofs/Demands.antt 's/demand-2-card/demand-2-cards/' 'there is no demand-2-card'
+seeded docs/CONTRACTS.md 's/`load-takes`, `load-taken` (card/`load-takes`, `load-refused` (lists/' 'there is no lists/proofs/Verdicts.antt'
+seeded docs/CONTRACTS.md 's/Of each of the \([0-9]*\)/Of each of the 1\1/' 'does not say that there are'
+seeded docs/CONTRACTS.md 's/ zeros_travel / zero_travels /; s,wiring/zeros_travel,wiring/zero_travels,' 'there is no edit wiring/zero_travels'
+seeded docs/CONTRACTS.md 's, card/refuses_everything , , ; s,card/refuses_everything\, ,card/,' 'does not name the edit card/refuses_everything'
+seeded crates.txt '/^text:/d' 'crates.txt does not have text'
+echo "audit: $seen seeded faults found"

@@ -1,0 +1,165 @@
+"""What the documents say of the tree, compared with the tree: `audit_test.py ROOT`. Prints each fault, and fails if there is one.
+
+1. Every function that has a `requires` is called, step by step, from a program's main or from a call for C; these ask nothing. As many functions have no
+   `ensures` as docs/AUDIT.md says, all of them in the programs.
+2. docs/AUDIT.md has every definition of specs/ at its crate and file, and no other. Definitions are written in four ways and in no other.
+3. Names with a path behind them are defined in that file; every other name occurs somewhere in the tree; an edit that docs/CONTRACTS.md names is there, and every edit is
+   named and counted.
+"""
+import pathlib
+import re
+import sys
+
+root = pathlib.Path(sys.argv[1])
+crates = root / "crates"
+faults = []
+
+
+def names_of(cell):
+    return re.findall(r"`([^`]*)`", cell)
+
+
+# --- 1. functions
+
+
+def functions(crate):
+    """The functions of a crate: the clauses of `requires` of each, what it calls by name, what it calls as a method, whether it is one, and whether it has an `ensures`."""
+    found = {}
+    for file in sorted((crates / crate / "src").glob("**/*.rt")):
+        text = re.sub(r"//.*", "", file.read_text(encoding="utf-8"))
+        heads = list(re.finditer(r"^( *)(?:pub )?(?:extern \"C\" )?fn (\w+)", text, flags=re.M))
+        for head, after in zip(heads, heads[1:] + [None]):
+            part = text[head.end():after.start() if after else len(text)]
+            asks = len(re.findall(r"^ *requires \{", part, flags=re.M))
+            body = re.sub(r"⌜[^⌝]*⌝", "", part)
+            calls = {(c or crate, n) for c, n in re.findall(r"(?<![.\w:])(?:([a-z_]+)::)?([a-z_0-9]+)\(", body)}
+            methods = set(re.findall(r"(?:\.|\b[A-Z]\w*::)([a-z_0-9]+)\(", body))
+            found[head.group(2)] = (asks, calls, methods, bool(head.group(1)), "ensures {" in part)
+    return found
+
+
+listed = [line.split(":")[0] for line in (root / "crates.txt").read_text().splitlines() if line and not line.startswith("#")]
+known = {(crate, name): function for crate in listed for name, function in functions(crate).items()}
+of_method = {}
+for key in known:
+    if known[key][3]:
+        of_method.setdefault(key[1], []).append(key)
+reached, waiting = set(), [key for key in known if key[1] == "main" or key[1].startswith("krasvome_")]
+roots = list(waiting)
+while waiting:
+    key = waiting.pop()
+    if key in reached:
+        continue
+    reached.add(key)
+    _, calls, methods, _, _ = known[key]
+    waiting += [call for call in calls if call in known and not known[call][3]]
+    waiting += [called for name in methods for called in of_method.get(name, [])]
+for key in roots:
+    if known[key][0]:
+        faults.append(f"{key[0]}::{key[1]} begins a chain of calls and asks something")
+asking = [key for key in known if known[key][0]]
+for key in asking:
+    if key not in reached:
+        faults.append(f"{key[0]}::{key[1]} asks something and no program and no call for C reaches it")
+
+audit = (root / "docs/AUDIT.md").read_text(encoding="utf-8")
+silent = [key for key in known if not known[key][4]]
+if f"{len(silent)} functions have no `ensures`" not in audit:
+    faults.append(f"docs/AUDIT.md does not say that {len(silent)} functions have no ensures")
+for key in silent:
+    if key[0] not in ("sheet", "drill"):
+        faults.append(f"{key[0]}::{key[1]} is in no program and has no ensures")
+
+# --- 2. definitions
+
+for place in sorted(crates.iterdir()):
+    if place.name not in listed:
+        faults.append(f"crates.txt does not have {place.name}")
+defined = {}
+for crate in listed:
+    for file in sorted((crates / crate / "specs").glob("**/*.antt")):
+        if file.parent.name != "specs":
+            faults.append(f"{crate}/specs has a folder, {file.parent.name}")
+        for line in file.read_text(encoding="utf-8").splitlines():
+            other = re.match(r"(?:(?:pub|abbrev|unfoldable) )?([^\s:]+) : ", line) or re.match(r" *(?:abbrev|unfoldable|data|record) (?!pub )([^\s:]+) .*:", line)
+            if other and not re.match(r" *(?:abbrev pub|unfoldable pub|pub data|pub record|module|--|infix)", line):
+                faults.append(f"{crate}/specs/{file.name} defines {other.group(1)} in another way")
+        for name in re.findall(r"^ *(?:abbrev pub|unfoldable pub|pub data|pub record) ([^\s:]+)", file.read_text(encoding="utf-8"), flags=re.M):
+            defined.setdefault((crate, name), set()).add(file.name)
+said = {}
+for section in re.split(r"^### ", audit, flags=re.M)[1:]:
+    crate = section.split("\n")[0].strip()
+    if crate not in listed:
+        continue
+    for row in re.findall(r"^\| (`[^|]*) \| (\w+\.antt) \|", section.split("\n## ")[0], flags=re.M):
+        for name in names_of(row[0]):
+            said.setdefault((crate, name), set()).add(row[1])
+for key in sorted(set(defined) | set(said)):
+    here, there = defined.get(key, set()), said.get(key, set())
+    for file in sorted(here - there):
+        faults.append(f"docs/AUDIT.md does not have {key[1]} ({key[0]}/specs/{file})")
+    for file in sorted(there - here):
+        faults.append(f"docs/AUDIT.md has {key[1]}, which {key[0]}/specs/{file} does not define")
+
+# --- 3. names with a path behind them, and edits
+
+
+def defines(files, name):
+    pattern = re.compile(rf"^ *(?:(?:abbrev|unfoldable|pub|data|record) )*{re.escape(name)} [^=\n]*:", flags=re.M)
+    return any(pattern.search(file.read_text(encoding="utf-8")) for file in files)
+
+
+def files_at(path):
+    """The files that a path in a document means: a file, the files in braces, or a directory's."""
+    braces = re.fullmatch(r"(.*)/\{(.*)\}\.antt", path)
+    if braces:
+        return [crates / braces.group(1) / f"{name}.antt" for name in braces.group(2).split(",")]
+    there = crates / path
+    return [there] if path.endswith(".antt") else sorted(there.glob("*.antt"))
+
+
+pathed, tokens = 0, set()
+for place in ("crates", "host", "tests", "speed", "examples"):
+    for file in (root / place).rglob("*"):
+        if file.is_file() and not file.stem.startswith("audit") and file.suffix in (".rt", ".antt", ".c", ".h", ".py", ".sh", ".txt", ".edit", ""):
+            tokens |= set(re.findall(r"[A-Za-z_][\w-]*", file.read_text(encoding="utf-8", errors="replace"))) | {file.name, file.stem}
+        elif file.is_dir():
+            tokens.add(file.name)
+for document in ("CONTRACTS.md", "AUDIT.md", "DECISIONS.md", "NOTES.md", "REQUESTS.md"):
+    text = re.sub(r"\s+", " ", (root / "docs" / document).read_text(encoding="utf-8"))
+    if document != "REQUESTS.md":  # it names what is still to come
+        for name in sorted({part for name in re.findall(r"`([A-Za-z_][\w-]*(?:::[a-z_]+)?)`", text) for part in name.split("::")} - tokens):
+            faults.append(f"docs/{document}: there is no {name}")
+    for names, path in re.findall(r"((?:`[^`]+`(?:, | and ))*`[^`]+`),? \(([a-z_]+/(?:specs|proofs)[^)\s]*?)[,;)]", text):
+        files = files_at(path)
+        if not files or not all(file.exists() for file in files):
+            faults.append(f"docs/{document}: there is no {path}")
+            continue
+        for name in names_of(names):
+            pathed += 1
+            if not defines(files, name):
+                faults.append(f"docs/{document}: {path} does not define {name}")
+edits = {f"{crate}/{file.stem}" for crate in listed for file in (crates / crate / "must-fail").glob("*.edit")}
+contracts = (root / "docs/CONTRACTS.md").read_text(encoding="utf-8")
+ties = contracts.split("## Ties")[1].split("\n## ")[0]
+named = set()
+for row in re.findall(r"^\| [^|]* \| ([^|]*) \|", ties, flags=re.M):
+    crate = None
+    for word in re.split(r"[,;] ", re.sub(r" \([^)]*\)", "", row)):
+        found = re.fullmatch(r"(?:([a-z_]+)/)?([\w-]+)", word.strip())
+        if found:
+            crate = found.group(1) or crate
+            if crate:
+                named.add(f"{crate}/{found.group(2)}")
+if f"Of each of the {len(edits)} edits" not in contracts:
+    faults.append(f"docs/CONTRACTS.md does not say that there are {len(edits)} edits")
+for edit in sorted(named - edits):
+    faults.append(f"docs/CONTRACTS.md: there is no edit {edit}")
+for edit in sorted(edits - named):
+    faults.append(f"docs/CONTRACTS.md does not name the edit {edit}")
+
+for fault in faults:
+    print(f"audit: {fault}")
+clauses = sum(known[key][0] for key in asking)
+print(f"audit: {len(asking)} functions of {len(known)} have {clauses} clauses of requires; {len(defined)} definitions; {pathed} names by path; {len(edits)} edits")
+sys.exit(bool(faults))
