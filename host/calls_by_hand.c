@@ -14,6 +14,14 @@ int hand_fault;
 static struct sim held;        /* the card of the session that was opened last */
 static struct hand_steps list; /* and its steps */
 
+/* The calls; a vector and many have one for each engine. */
+enum { LOAD, REST, VECTOR, MANY = VECTOR + 2, HISTORY = MANY + 2 };
+
+/* What the call under way was handed: a session or none, what its bytes came to (0, 12, 18), and byte 0. */
+static struct {
+    int none, opened, state;
+} met;
+
 static size_t card_length(const uint8_t *b)
 {
     return b[1] + 256u * b[2];
@@ -58,21 +66,20 @@ static int room_fits(const uint8_t *room, size_t size)
     return FAULT(39) || is_clear(room, size, 256);
 }
 
-static int open_session(struct hand *h, const uint8_t *b, size_t length)
+static int opened(struct hand *h, const uint8_t *b, size_t length)
 {
-    static int asked;
-    if (!asked++ && getenv("FAULT"))
-        hand_fault = atoi(getenv("FAULT"));
     if (length < KRASVOME_SESSION)
         return FAULT(40) && b ? 12 : 18;
     if (b[0] == 0)
         return FAULT(41) || is_clear(b, 0, KRASVOME_SESSION) ? 0 : 12;
     int state = FAULT(14) && b[0] > STEPS ? STEPS : b[0];
     size_t card = card_length(b);
+    for (; FAULT(97) && card > 0 && (card > 5380 || sim_load(&held, b + 515, card)); card--)
+        ;
     if (state > STEPS || card > 5380 || sim_load(&held, b + 515, card))
         return 12;
     size_t inputs = (size_t)held.inputs, older = state >= FIELDS ? inputs : 0, last = state >= 2 ? inputs : 0;
-    if (!is_clear(b, 515 + card, KRASVOME_SESSION - (size_t)FAULT(15)) || !room_fits(b + 3, older) || !room_fits(b + 259, last))
+    if (!is_clear(b, FAULT(98) ? KRASVOME_SESSION - 1 : 515 + card, KRASVOME_SESSION - (size_t)FAULT(15)) || !room_fits(b + 3, older) || !room_fits(b + 259, last))
         return 12;
     hand_load(h, &held);
     hand_steps_load(&list, h);
@@ -85,8 +92,33 @@ static int open_session(struct hand *h, const uint8_t *b, size_t length)
     return 0;
 }
 
-static uint64_t answer(int number, int count)
+static int open_session(struct hand *h, const uint8_t *b, size_t length)
 {
+    static int asked;
+    if (!asked++ && getenv("FAULT"))
+        hand_fault = atoi(getenv("FAULT"));
+    met.opened = opened(h, b, length);
+    met.none = !b;
+    met.state = met.opened ? -1 : b[0];
+    return met.opened;
+}
+
+/* The answer of a call, with the faults that every call can have: 100 + 20 * call + kind. */
+static uint64_t answer(int call, const uint8_t *b, int given, int room, int number, int count)
+{
+    int fault = hand_fault - 100 - 20 * call, refused = number != 0;
+    if (fault == 0 && !refused)
+        count++;
+    if (fault == 1 && refused)
+        count = 1;
+    if (fault == 2 && refused && met.opened != 18)
+        ((uint8_t *)b)[KRASVOME_SESSION - 1] ^= 1;
+    if ((fault == 3 && met.none) || (fault == 4 && met.opened == 12))
+        number = 10;
+    if ((fault == 5 && met.state == 0 && refused) || (fault == 6 && met.state == 1 && refused && given) || (fault == 7 && met.state >= 2 && !refused && given))
+        number = 13;
+    if ((fault == 8 && !given && !met.opened) || (fault == 9 && !room && given && !met.opened))
+        number = 17;
     return (uint64_t)number + ((uint64_t)count << 8);
 }
 
@@ -97,10 +129,8 @@ uint64_t krasvome_load(uint8_t *b, size_t length, const uint8_t *card, size_t si
     int number = open_session(&h, b, length);
     if (FAULT(75) && number == 18 && b)
         number = sim_load(&fresh, card, size);
-    if (FAULT(76) && !b)
-        number = 12;
     if (!number)
-        number = FAULT(42) && !card ? 18 : sim_load(&fresh, card, size);
+        number = sim_load(&fresh, card, size);
     if (FAULT(25) && number == 8)
         number = 2;
     if (FAULT(26) && number == 8)
@@ -110,13 +140,13 @@ uint64_t krasvome_load(uint8_t *b, size_t length, const uint8_t *card, size_t si
     if (FAULT(44) && number && number < 10 && b[0])
         memset(b, 0, KRASVOME_SESSION);
     if (number)
-        return answer(number, 0);
+        return answer(LOAD, b, card != NULL, 1, number, 0);
     memset(b + (FAULT(45) ? 515 : 0), 0, KRASVOME_SESSION - (FAULT(45) ? 515 : 0));
     b[0] = FAULT(87) ? 2 : 1;
     b[1] = (uint8_t)(size & 255);
     b[2] = (uint8_t)(size >> 8);
     memcpy(b + 515, card, size);
-    return answer(0, fresh.nets - FAULT(36));
+    return answer(LOAD, b, 1, 1, 0, fresh.nets);
 }
 
 static int has_wrong_byte(const uint8_t *v, size_t size)
@@ -128,17 +158,15 @@ static int has_wrong_byte(const uint8_t *v, size_t size)
 }
 
 /* 12, 10, 11: "card only" for a rest, a rest for a vector */
-static int vector_number(const uint8_t *b, int least, const uint8_t *v, size_t size)
+static int vector_number(int call, const uint8_t *b, const uint8_t *v, size_t size)
 {
-    int other = size != (size_t)held.inputs;
+    int other = size != (size_t)held.inputs, least = call == REST ? 1 : 2;
     if (b[0] < least && !(least == 1 ? FAULT(46) : FAULT(47)) && !(FAULT(48) && b[0] && other))
         return FAULT(49) && !b[0] && least == 1 ? 13 : 12;
-    if (FAULT(27) && least == 2 && has_wrong_byte(v, size))
-        return 11;
-    if (FAULT(50) && least == 1 && has_wrong_byte(v, size))
+    if (FAULT(call == REST ? 50 : call == VECTOR ? 99 : 27) && has_wrong_byte(v, size))
         return 11;
     if (other)
-        return (least == 1 ? FAULT(51) : FAULT(81)) && !v ? 12 : 10;
+        return 10;
     return has_wrong_byte(v, size) && !FAULT(52) ? 11 : 0;
 }
 
@@ -146,19 +174,15 @@ uint64_t krasvome_rest(uint8_t *b, size_t length, const uint8_t *v, size_t size)
 {
     static struct hand h;
     int number = open_session(&h, b, length);
-    if (FAULT(53) && number == 12)
-        number = 10;
-    if (FAULT(77) && !b)
-        number = 12;
     if (!number)
-        number = vector_number(b, 1, v, size);
+        number = vector_number(REST, b, v, size);
     if (number)
-        return answer(number, 0);
+        return answer(REST, b, v != NULL, 1, number, 0);
     b[0] = 2;
     memset(b + 3, 0, FAULT(54) ? 0 : 256);
     memset(b + 259, 0, 256);
     memcpy(b + 259, v, size);
-    return answer(0, FAULT(55));
+    return answer(REST, b, 1, 1, 0, 0);
 }
 
 static void keep_vector(uint8_t *b, int engine, const uint8_t *v, size_t size)
@@ -175,18 +199,14 @@ static void keep_vector(uint8_t *b, int engine, const uint8_t *v, size_t size)
 static uint64_t vector(uint8_t *b, size_t length, const uint8_t *v, size_t size, int engine)
 {
     static struct hand h;
-    int number = open_session(&h, b, length);
-    if (FAULT(engine == FIELDS ? 56 : 57) && number == 12)
-        number = 10;
-    if (FAULT(78) && !b)
-        number = 12;
+    int call = VECTOR + (engine == STEPS), number = open_session(&h, b, length);
     if (!number)
-        number = vector_number(b, 2, v, size);
+        number = vector_number(call, b, v, size);
     if (number)
-        return answer(number, 0);
+        return answer(call, b, v != NULL, 1, number, 0);
     int done = run(&h, engine, v);
     keep_vector(b, engine, v, size);
-    return answer(0, engine == STEPS && FAULT(12) ? h.gates : done);
+    return answer(call, b, 1, 1, 0, engine == STEPS && FAULT(12) ? h.gates : done);
 }
 
 uint64_t krasvome_vector(uint8_t *b, size_t length, const uint8_t *v, size_t size)
@@ -211,43 +231,37 @@ static int many_number(const uint8_t *b, const uint8_t *v, size_t size, size_t r
         return 10;
     if (has_wrong_byte(v, size) && !(FAULT(62) && engine == FIELDS))
         return 11;
-    if (room < need)
-        return FAULT(82) && !room ? 12 : 18;
-    return FAULT(63) && !v ? 18 : 0;
+    return room < need ? 18 : 0;
 }
 
 static uint64_t many(uint8_t *b, size_t length, const uint8_t *v, size_t size, uint64_t *words, size_t room, int engine)
 {
     static struct hand h, first;
-    int number = open_session(&h, b, length);
-    if (FAULT(64) && number == 12)
-        number = 10;
-    if (FAULT(79) && !b)
-        number = 12;
+    int steps = engine == STEPS, call = MANY + steps, number = open_session(&h, b, length);
     if (!number)
         number = many_number(b, v, size, room, engine);
-    if (FAULT(31) && number && room)
+    if (FAULT(steps ? 88 : 31) && number && room)
         words[0] = 0;
     if (number)
-        return answer(number, 0);
+        return answer(call, b, v != NULL, words != NULL, number, 0);
     size_t n = (size_t)held.inputs, nets = (size_t)h.nets, count = size / n;
     int done = 0;
     first = h;
-    if (FAULT(65) && !count)
+    if (FAULT(steps ? 90 : 65) && !count)
         b[0] = (uint8_t)engine;
     for (size_t k = 0; k < count; k++) {
         if (FAULT(engine == FIELDS ? 20 : 21))
             h = first;
-        if (FAULT(34) && engine == STEPS && count == 1)
-            done = held.pairs;
+        if (FAULT(steps ? 34 : 96) && count == 1)
+            done = steps ? held.pairs : 0;
         else
             done = run(&h, engine, v + k * n) + (FAULT(22) ? done : 0);
         memcpy(words + k * nets, h.word + (FAULT(23) && k == count - 1 && nets > 1), nets * sizeof *words);
-        keep_vector(b, engine, v + (FAULT(24) && k + 2 == count ? k + 1 : k) * n, n);
+        keep_vector(b, engine, v + (FAULT(steps ? 91 : 24) && k + 2 == count ? k + 1 : k) * n, n);
     }
-    if (FAULT(66) && room > count * nets)
+    if (FAULT(steps ? 89 : 66) && room > count * nets)
         words[count * nets] = 0;
-    return answer(0, done);
+    return answer(call, b, v != NULL, words != NULL, 0, done);
 }
 
 uint64_t krasvome_vectors(uint8_t *b, size_t length, const uint8_t *v, size_t size, uint64_t *words, size_t room)
@@ -275,22 +289,20 @@ uint64_t krasvome_history(const uint8_t *b, size_t length, uint64_t *words, size
 {
     static struct hand h;
     int number = open_session(&h, b, length);
-    if (FAULT(70) && number == 12)
-        number = 13;
-    if (FAULT(80) && !b)
-        number = 12;
     if (!number)
-        number = FAULT(83) && !words ? 12 : history_number(b, (size_t)h.nets, w, x, y);
+        number = history_number(b, (size_t)h.nets, w, x, y);
     if (FAULT(84) && !number && b[0] == STEPS)
         number = 12;
+    if (FAULT(92) && number == 18 && w)
+        words[0] = 0;
     if (FAULT(28) && number == 18 && x)
         befores[0] = 0;
+    if (FAULT(93) && number == 18 && y)
+        flags[0] = 0;
     if (FAULT(71) && !number && b[0] == STEPS)
         ((uint8_t *)b)[0] = FIELDS;
-    if (FAULT(72) && number == 18 && b && length >= KRASVOME_SESSION)
-        ((uint8_t *)b)[3]++;
     if (number)
-        return answer(number, FAULT(29) ? h.nets : 0);
+        return answer(HISTORY, b, 1, words != NULL, number, 0);
     for (int n = 0; n < h.nets && b[0]; n++) {
         uint64_t moves = h.word[n] ^ (h.word[n] << 1 | h.before[n]);
         if (FAULT(18)) /* at the last time */
@@ -308,7 +320,11 @@ uint64_t krasvome_history(const uint8_t *b, size_t length, uint64_t *words, size
         if (FAULT(74) && b[0] == 2)
             flags[n] = 1;
     }
+    if (FAULT(94) && w > (size_t)h.nets)
+        words[h.nets] = 0;
     if (FAULT(32) && x > (size_t)h.nets)
         befores[h.nets] = 0;
-    return answer(0, h.nets);
+    if (FAULT(95) && y > (size_t)h.nets)
+        flags[h.nets] = 0;
+    return answer(HISTORY, b, 1, words != NULL, 0, h.nets);
 }

@@ -1,4 +1,4 @@
-/* compare [CARDS [SEED]]: the library against the event-driven simulator, on random cards, rests and vectors, and on damaged ones. Compared is
+/* compare [CARDS [SEED [names]]]: the library against the event-driven simulator, on random cards, rests and vectors, and on damaged ones. Compared is
  *   - the history after each rest, after each vector by fields and after each by steps, one at a time: each net at every time 0 to 63, before values and flags;
  *   - the words of lists of vectors in one call, by fields and by steps: lists of one vector, of some, and of up to 200;
  *   - the session's bytes after each call that was done, with what krasvome.h says of them: what they hold, and by which engine the last vector ran;
@@ -6,7 +6,8 @@
  *     session and all rooms, whose contents are known, as they were; and bytes that no call left get 12 by every call.
  * The words by steps are those that the calls by steps hand out: of a list the call's own, of one vector those of the run by which krasvome_history makes the session
  * again. That they were worked out by steps is in the contracts, and cannot be seen from here.
- * The first mismatch is written out as a session file, and the program ends with status 1. */
+ * The first mismatch is written out as a session file, and the program ends with status 1. With `names` each thing that was compared is named at the end, as a mismatch of
+ * it would be: tests/host.sh asks for a seeded fault of each. */
 #include "krasvome.h"
 #include "random_cards.h"
 #include "simulator.h"
@@ -22,6 +23,10 @@ static size_t file_length, card_length;
 static uint64_t seed;
 static unsigned long cards, taken, damaged, vectors[2], rest_values, sequences, in_sequences;
 static unsigned long numbers[256];
+
+/* The calls, as mismatches name them; a vector and many have one for each engine. */
+enum { LOAD, REST, VECTOR, MANY = VECTOR + 2, HISTORY = MANY + 2 };
+static const char *const call_name[] = {"load", "rest", "vector by fields", "vector by steps", "many by fields", "many by steps", "history"};
 
 /* The engines: their calls for one vector and for many, what byte 0 of a session then says, whether they count steps, and what was compared of them. */
 static struct {
@@ -59,8 +64,31 @@ static void put_record(unsigned kind, const uint8_t *body, size_t length)
     file_length += length;
 }
 
+/* What was compared, where that is asked for. */
+static int naming;
+static struct {
+    const char *what, *by;
+} named[256];
+static int names;
+
+static void name_once(const char *what, const char *by)
+{
+    static int last;
+    if (names && named[last].what == what && named[last].by == by)
+        return;
+    for (last = 0; last < names; last++)
+        if (!strcmp(named[last].what, what) && !strcmp(named[last].by, by))
+            return;
+    if (names == sizeof named / sizeof *named)
+        abort();
+    named[names].what = what;
+    named[names++].by = by;
+}
+
 static void check_by(const char *what, const char *by, unsigned long wanted, unsigned long got)
 {
+    if (naming)
+        name_once(what, by);
     if (wanted == got)
         return;
     const char *name = "mismatch.session"; /* in the folder that the program was started in */
@@ -73,33 +101,36 @@ static void check_by(const char *what, const char *by, unsigned long wanted, uns
     exit(1);
 }
 
-static void check(const char *what, unsigned long wanted, unsigned long got)
-{
-    check_by(what, "", wanted, got);
-}
-
-static void check_same(const char *what, const uint8_t *wanted, const uint8_t *got, size_t length)
+static void check_same(const char *what, const char *by, const uint8_t *wanted, const uint8_t *got, size_t length)
 {
     for (size_t i = 0; i < length; i++)
-        check(what, wanted[i], got[i]);
+        check_by(what, by, wanted[i], got[i]);
 }
 
 /* Lent memory that has to have the contents 0xaa still. */
-static void check_kept(const char *what, const void *room, size_t bytes)
+static void check_kept(const char *what, const char *by, const void *room, size_t bytes)
 {
     const uint8_t *at = room;
     for (size_t i = 0; i < bytes; i++)
-        check(what, 0xaa, at[i]);
+        check_by(what, by, 0xaa, at[i]);
 }
 
-/* An answer: the number and the count; and where it is a refusal, the session's bytes as they were. */
-static void check_answer(const char *what, const char *by, uint64_t answer, unsigned number, size_t count, const uint8_t *bytes, const uint8_t *old)
+/* An answer of a call, and where it was asked: the number and the count; and where it is a refusal, the session's bytes as they were. */
+static void check_answer(int call, const char *where, uint64_t answer, unsigned number, size_t count, const uint8_t *bytes, const uint8_t *old)
 {
-    check_by(what, by, number, KRASVOME_NUMBER(answer));
-    check(number ? "count of a refusal" : "count", number ? 0 : count, KRASVOME_COUNT(answer));
+    check_by(call_name[call], where, number, KRASVOME_NUMBER(answer));
+    check_by(number ? "count of a refused " : "count of ", call_name[call], number ? 0 : count, KRASVOME_COUNT(answer));
     if (number)
-        check_same("a refusal that changed the session", old, bytes, KRASVOME_SESSION + 1);
+        check_same("session after a refused ", call_name[call], old, bytes, KRASVOME_SESSION + 1);
     numbers[number]++;
+}
+
+/* The rooms of a history that was refused: all as they were. */
+static void check_rooms(const struct rooms *r)
+{
+    check_kept("words of a refused history", "", r->word, sizeof r->word);
+    check_kept("before values of a refused history", "", r->before, sizeof r->before);
+    check_kept("flags of a refused history", "", r->flag, sizeof r->flag);
 }
 
 /* The session's bytes as krasvome.h describes them. */
@@ -200,10 +231,11 @@ static void try_history(const struct session *k, struct arguments a, size_t nets
         a.words = SIM_NETS + 1;
     unsigned number = history_number(&a, k->state >= RESTED, nets);
     uint64_t answer = krasvome_history(bytes, a.session, r.word, a.words, r.before, a.befores, r.flag, a.flags);
-    check_answer("history", state_name(k->state), answer, number, nets, bytes, k->bytes);
+    check_answer(HISTORY, state_name(k->state), answer, number, nets, bytes, k->bytes);
     if (number)
-        check_kept("room of a refused history", &r, sizeof r);
-    check_same("a history that changed the session", k->bytes, bytes, sizeof bytes);
+        check_rooms(&r);
+    else
+        check_same("session after a history", "", k->bytes, bytes, sizeof bytes);
 }
 
 static void try_many(const struct sim *s, const struct session *k, struct arguments a, size_t inputs, size_t nets, int e)
@@ -215,10 +247,10 @@ static void try_many(const struct sim *s, const struct session *k, struct argume
     unsigned number = many_number(&a, k->state >= RESTED, inputs, nets);
     size_t count = a.size / inputs, done = number ? 0 : count * nets;
     uint64_t answer = engine[e].many(bytes, a.session, a.v, a.size, word, a.words);
-    check_answer(e == FIELDS ? "many by fields" : "many by steps", state_name(k->state), answer, number, count && engine[e].counts ? (size_t)s->pairs : 0, bytes, k->bytes);
-    check_kept(number ? "room of a refused call for many" : "room past many words", word + done, sizeof word - done * sizeof *word);
+    check_answer(MANY + e, state_name(k->state), answer, number, count && engine[e].counts ? (size_t)s->pairs : 0, bytes, k->bytes);
+    check_kept(number ? "words of a refused " : "words past ", call_name[MANY + e], word + done, sizeof word - done * sizeof *word);
     if (!number && !count)
-        check_same("no vectors that change the session", k->bytes, bytes, sizeof bytes);
+        check_same("session after no vectors", engine[e].by, k->bytes, bytes, sizeof bytes);
 }
 
 static void try_calls(struct random_source *r, const struct sim *s, const struct session *k)
@@ -228,18 +260,18 @@ static void try_calls(struct random_source *r, const struct sim *s, const struct
     memcpy(bytes, k->bytes, sizeof bytes);
     struct arguments a = random_arguments(r, inputs, nets);
     unsigned number = vector_number(&a, k->state >= CARD, inputs);
-    check_answer("rest", state_name(k->state), krasvome_rest(bytes, a.session, a.v, a.size), number, 0, bytes, k->bytes);
+    check_answer(REST, state_name(k->state), krasvome_rest(bytes, a.session, a.v, a.size), number, 0, bytes, k->bytes);
     for (int e = 0; e < ENGINES; e++) {
         memcpy(bytes, k->bytes, sizeof bytes);
         a = random_arguments(r, inputs, nets);
         number = vector_number(&a, k->state >= RESTED, inputs);
         uint64_t answer = engine[e].one(bytes, a.session, a.v, a.size);
-        check_answer(e == FIELDS ? "vector by fields" : "vector by steps", state_name(k->state), answer, number, engine[e].counts ? (size_t)s->pairs : 0, bytes, k->bytes);
+        check_answer(VECTOR + e, state_name(k->state), answer, number, engine[e].counts ? (size_t)s->pairs : 0, bytes, k->bytes);
         try_many(s, k, random_arguments(r, inputs, nets), inputs, nets, e);
     }
     try_history(k, random_arguments(r, inputs, nets), nets);
     memcpy(bytes, k->bytes, sizeof bytes);
-    check_answer("load into a short slice", "", krasvome_load(bytes, random_below(r, KRASVOME_SESSION), file, card_length), 18, 0, bytes, k->bytes);
+    check_answer(LOAD, " into a short slice", krasvome_load(bytes, random_below(r, KRASVOME_SESSION), file, card_length), 18, 0, bytes, k->bytes);
 }
 
 /* Changes a session's bytes to ones that no call left; 0: not this time. */
@@ -279,6 +311,7 @@ static int damage_session(struct random_source *r, const struct session *k, size
 static void check_unleft(struct random_source *r, const struct sim *s, const struct session *k)
 {
     static const uint8_t v[SIM_NETS];
+    const char *where = " on bytes that no call left";
     uint8_t broken[KRASVOME_SESSION + 1], bytes[KRASVOME_SESSION + 1];
     uint64_t word[SIM_NETS];
     struct rooms rooms;
@@ -287,18 +320,18 @@ static void check_unleft(struct random_source *r, const struct sim *s, const str
     if (!damage_session(r, k, n, broken))
         return;
     memcpy(bytes, broken, sizeof bytes);
-    memset(word, 0xaa, sizeof word);
     memset(&rooms, 0xaa, sizeof rooms);
-    check_answer("load on bytes that no call left", "", krasvome_load(bytes, KRASVOME_SESSION, file, card_length), 12, 0, bytes, broken);
-    check_answer("rest on bytes that no call left", "", krasvome_rest(bytes, KRASVOME_SESSION, v, n), 12, 0, bytes, broken);
+    check_answer(LOAD, where, krasvome_load(bytes, KRASVOME_SESSION, file, card_length), 12, 0, bytes, broken);
+    check_answer(REST, where, krasvome_rest(bytes, KRASVOME_SESSION, v, n), 12, 0, bytes, broken);
     for (int e = 0; e < ENGINES; e++) {
-        check_answer("vector on bytes that no call left", engine[e].by, engine[e].one(bytes, KRASVOME_SESSION, v, n), 12, 0, bytes, broken);
-        check_answer("many on bytes that no call left", engine[e].by, engine[e].many(bytes, KRASVOME_SESSION, v, n, word, SIM_NETS), 12, 0, bytes, broken);
+        memset(word, 0xaa, sizeof word);
+        check_answer(VECTOR + e, where, engine[e].one(bytes, KRASVOME_SESSION, v, n), 12, 0, bytes, broken);
+        check_answer(MANY + e, where, engine[e].many(bytes, KRASVOME_SESSION, v, n, word, SIM_NETS), 12, 0, bytes, broken);
+        check_kept("words of a refused ", call_name[MANY + e], word, sizeof word);
     }
-    check_kept("room of a refused call for many", word, sizeof word);
     uint64_t answer = krasvome_history(bytes, KRASVOME_SESSION, rooms.word, SIM_NETS, rooms.before, SIM_NETS, rooms.flag, SIM_NETS);
-    check_answer("history of bytes that no call left", "", answer, 12, 0, bytes, broken);
-    check_kept("room of a refused history", &rooms, sizeof rooms);
+    check_answer(HISTORY, where, answer, 12, 0, bytes, broken);
+    check_rooms(&rooms);
 }
 
 static void check_history(const struct sim *s, const struct session *k, const char *by, unsigned long *values)
@@ -308,8 +341,8 @@ static void check_history(const struct sim *s, const struct session *k, const ch
     uint8_t bytes[KRASVOME_SESSION + 1];
     memset(&r, 0xaa, sizeof r);
     memcpy(bytes, k->bytes, sizeof bytes);
-    check_answer("history", by, krasvome_history(bytes, KRASVOME_SESSION, r.word, n, r.before, n + 1, r.flag, n), 0, n, bytes, k->bytes);
-    check_same("a history that changed the session", k->bytes, bytes, sizeof bytes);
+    check_answer(HISTORY, state_name(k->state), krasvome_history(bytes, KRASVOME_SESSION, r.word, n + 1, r.before, n + 1, r.flag, n + 1), 0, n, bytes, k->bytes);
+    check_same("session after a history", "", k->bytes, bytes, sizeof bytes);
     for (size_t i = 0; i < n; i++) {
         check_by("before value", by, (unsigned long)s->before[i], r.before[i]);
         for (int t = 0; t < SIM_TIMES; t++)
@@ -317,9 +350,9 @@ static void check_history(const struct sim *s, const struct session *k, const ch
         check_by("flag", by, (unsigned long)sim_flag(s, (int)i), r.flag[i]);
         *values += SIM_TIMES;
     }
-    check_kept("room past a history", r.word + n, sizeof r.word - n * sizeof *r.word);
-    check_kept("room past a history", r.before + n, sizeof r.before - n);
-    check_kept("room past a history", r.flag + n, sizeof r.flag - n);
+    check_kept("words past a history", "", r.word + n, sizeof r.word - n * sizeof *r.word);
+    check_kept("before values past a history", "", r.before + n, sizeof r.before - n);
+    check_kept("flags past a history", "", r.flag + n, sizeof r.flag - n);
 }
 
 /* A list of vectors in one call, from a session: the words of each, and the bytes after the last two. */
@@ -331,11 +364,11 @@ static void check_many(const struct sim *s, int e, struct session k, const uint8
     memcpy(old, k.bytes, sizeof old);
     memset(got, 0xaa, (room + 1) * sizeof *got);
     uint64_t answer = engine[e].many(k.bytes, KRASVOME_SESSION, all, count * n, got, room + 1);
-    check_answer("a list of vectors", engine[e].by, answer, 0, engine[e].counts ? (size_t)s->pairs : 0, k.bytes, old);
+    check_answer(MANY + e, state_name(k.state), answer, 0, engine[e].counts ? (size_t)s->pairs : 0, k.bytes, old);
     for (size_t i = 0; i < room; i++)
         check_by("word of many", engine[e].by, (unsigned long)word[i], (unsigned long)got[i]);
     engine[e].many_values += room * SIM_TIMES;
-    check_kept("room past many words", got + room, sizeof *got);
+    check_kept("words past ", call_name[MANY + e], got + room, sizeof *got);
     for (size_t j = 0; j < count; j++)
         note_vector(&k, e, all + j * n, n);
     check_session("bytes after many", engine[e].by, &k, n);
@@ -369,7 +402,7 @@ static void rest_session(const struct sim *s, struct session *k, const uint8_t *
 {
     uint8_t old[KRASVOME_SESSION + 1];
     memcpy(old, k->bytes, sizeof old);
-    check_answer("a rest", "", krasvome_rest(k->bytes, KRASVOME_SESSION, v, (size_t)s->inputs), 0, 0, k->bytes, old);
+    check_answer(REST, state_name(k->state), krasvome_rest(k->bytes, KRASVOME_SESSION, v, (size_t)s->inputs), 0, 0, k->bytes, old);
     k->state = RESTED;
     memcpy(k->last, v, (size_t)s->inputs);
     check_session("bytes after a rest", "", k, (size_t)s->inputs);
@@ -380,7 +413,7 @@ static void move_session(const struct sim *s, struct session *k, int e, const ui
     uint8_t old[KRASVOME_SESSION + 1];
     size_t n = (size_t)s->inputs;
     memcpy(old, k->bytes, sizeof old);
-    check_answer("a vector", engine[e].by, engine[e].one(k->bytes, KRASVOME_SESSION, v, n), 0, engine[e].counts ? (size_t)s->pairs : 0, k->bytes, old);
+    check_answer(VECTOR + e, state_name(k->state), engine[e].one(k->bytes, KRASVOME_SESSION, v, n), 0, engine[e].counts ? (size_t)s->pairs : 0, k->bytes, old);
     note_vector(k, e, v, n);
     check_session("bytes after a vector", engine[e].by, k, n);
 }
@@ -442,8 +475,8 @@ static void check_card(struct random_source *r, const uint8_t *bytes, size_t len
     memcpy(file, bytes, length);
     file_length = card_length = length;
     unsigned number = (unsigned)sim_load(&s, bytes, length);
-    check_answer("load", "", krasvome_load(fresh.bytes, KRASVOME_SESSION, bytes, length), number, (size_t)s.nets, fresh.bytes, empty.bytes);
-    check_answer("load over a card", "", krasvome_load(over.bytes, KRASVOME_SESSION, bytes, length), number, (size_t)s.nets, over.bytes, left.bytes);
+    check_answer(LOAD, "", krasvome_load(fresh.bytes, KRASVOME_SESSION, bytes, length), number, (size_t)s.nets, fresh.bytes, empty.bytes);
+    check_answer(LOAD, " over a card", krasvome_load(over.bytes, KRASVOME_SESSION, bytes, length), number, (size_t)s.nets, over.bytes, left.bytes);
     cards++;
     if (number)
         return;
@@ -464,24 +497,24 @@ static void check_nulls(void)
     static const uint8_t card[] = {0, 0, 1, 0, 3, 0, 3, 0, 0, 0, 0, 0, 0, 4, 0}; /* an input, and a BUF of it */
     uint8_t b[KRASVOME_SESSION + 1] = {0}, old[KRASVOME_SESSION + 1] = {0}, v = 1;
     uint64_t word[2];
-    check_answer("load with no session", "", krasvome_load(NULL, 0, card, sizeof card), 18, 0, b, old);
-    check_answer("rest with no session", "", krasvome_rest(NULL, 0, &v, 1), 18, 0, b, old);
-    check_answer("history with no session", "", krasvome_history(NULL, 0, NULL, 0, NULL, 0, NULL, 0), 18, 0, b, old);
-    check_answer("load of no bytes", "", krasvome_load(b, KRASVOME_SESSION, NULL, 0), 1, 0, b, old);
-    check_answer("load", "", krasvome_load(b, KRASVOME_SESSION, card, sizeof card), 0, 2, b, old);
+    check_answer(LOAD, " with no session", krasvome_load(NULL, 0, card, sizeof card), 18, 0, b, old);
+    check_answer(REST, " with no session", krasvome_rest(NULL, 0, &v, 1), 18, 0, b, old);
+    check_answer(HISTORY, " with no session", krasvome_history(NULL, 0, NULL, 0, NULL, 0, NULL, 0), 18, 0, b, old);
+    check_answer(LOAD, " of no bytes", krasvome_load(b, KRASVOME_SESSION, NULL, 0), 1, 0, b, old);
+    check_answer(LOAD, "", krasvome_load(b, KRASVOME_SESSION, card, sizeof card), 0, 2, b, old);
     memcpy(old, b, sizeof old);
-    check_answer("a rest of no bytes", "", krasvome_rest(b, KRASVOME_SESSION, NULL, 0), 10, 0, b, old);
-    check_answer("rest", "", krasvome_rest(b, KRASVOME_SESSION, &v, 1), 0, 0, b, old);
+    check_answer(REST, " of no bytes", krasvome_rest(b, KRASVOME_SESSION, NULL, 0), 10, 0, b, old);
+    check_answer(REST, state_name(CARD), krasvome_rest(b, KRASVOME_SESSION, &v, 1), 0, 0, b, old);
     memcpy(old, b, sizeof old);
     for (int e = 0; e < ENGINES; e++) {
-        check_answer("a vector with no session", engine[e].by, engine[e].one(NULL, 0, &v, 1), 18, 0, b, old);
-        check_answer("many with no session", engine[e].by, engine[e].many(NULL, 0, &v, 1, word, 2), 18, 0, b, old);
-        check_answer("a vector of no bytes", engine[e].by, engine[e].one(b, KRASVOME_SESSION, NULL, 0), 10, 0, b, old);
-        check_answer("no vectors", engine[e].by, engine[e].many(b, KRASVOME_SESSION, NULL, 0, NULL, 0), 0, 0, b, old);
-        check_same("no vectors that change the session", old, b, sizeof old);
-        check_answer("many with no room", engine[e].by, engine[e].many(b, KRASVOME_SESSION, &v, 1, NULL, 0), 18, 0, b, old);
+        check_answer(VECTOR + e, " with no session", engine[e].one(NULL, 0, &v, 1), 18, 0, b, old);
+        check_answer(MANY + e, " with no session", engine[e].many(NULL, 0, &v, 1, word, 2), 18, 0, b, old);
+        check_answer(VECTOR + e, " of no bytes", engine[e].one(b, KRASVOME_SESSION, NULL, 0), 10, 0, b, old);
+        check_answer(MANY + e, " of no bytes", engine[e].many(b, KRASVOME_SESSION, NULL, 0, NULL, 0), 0, 0, b, old);
+        check_same("session after no vectors", engine[e].by, old, b, sizeof old);
+        check_answer(MANY + e, " with no room", engine[e].many(b, KRASVOME_SESSION, &v, 1, NULL, 0), 18, 0, b, old);
     }
-    check_answer("history with no room", "", krasvome_history(b, KRASVOME_SESSION, NULL, 0, NULL, 0, NULL, 0), 18, 0, b, old);
+    check_answer(HISTORY, " with no room", krasvome_history(b, KRASVOME_SESSION, NULL, 0, NULL, 0, NULL, 0), 18, 0, b, old);
 }
 
 int main(int argc, char **argv)
@@ -489,6 +522,7 @@ int main(int argc, char **argv)
     unsigned long wanted = argc > 1 ? strtoul(argv[1], NULL, 10) : 1000;
     uint64_t first = argc > 2 ? strtoull(argv[2], NULL, 10) : 1;
     uint8_t bytes[CARD_ROOM];
+    naming = argc > 3 && !strcmp(argv[3], "names");
     printf("cards %lu, seed %llu\n", wanted, (unsigned long long)first);
     check_nulls();
     for (unsigned long k = 0; k < wanted; k++) {
@@ -515,5 +549,7 @@ int main(int argc, char **argv)
         if (numbers[n])
             printf(" %d: %lu", n, numbers[n]);
     printf("\n");
+    for (int i = 0; i < names; i++)
+        printf("compared: %s%s\n", named[i].what, named[i].by);
     return 0;
 }

@@ -13,7 +13,7 @@ seen=0
 seeded() {
     rm -rf "$room"/*
     mkdir "$room/crates"
-    cp -r docs crates.txt host tests speed examples "$room"
+    cp -r README.md docs crates.txt host tests speed examples "$room"
     for crate in crates/*; do
         mkdir "$room/$crate"
         for part in src specs proofs must-fail; do
@@ -42,5 +42,11 @@ seeded docs/CONTRACTS.md 's/`load-takes`, `load-taken` (card/`load-takes`, `load
 seeded docs/CONTRACTS.md 's/Of each of the \([0-9]*\)/Of each of the 1\1/' 'does not say that there are'
 seeded docs/CONTRACTS.md 's/ zeros_travel / zero_travels /; s,wiring/zeros_travel,wiring/zero_travels,' 'there is no edit wiring/zero_travels'
 seeded docs/CONTRACTS.md 's, card/refuses_everything , , ; s,card/refuses_everything\, ,card/,' 'does not name the edit card/refuses_everything'
+seeded README.md 's/`moves`/`movers`/' 'README.md: there is no movers'
+seeded docs/PERFORMANCE.md 's/`krasvome_vectors`/`krasvome_vectored`/' 'docs/PERFORMANCE.md: there is no krasvome_vectored'
+seeded docs/DECISIONS.md 's/`madeMoved`/`madeMove`/' 'docs/DECISIONS.md: there is no madeMove'
+seeded docs/NOTES.md 's/`noTime`/`noTimes`/' 'docs/NOTES.md: there is no noTimes'
+seeded docs/REQUESTS.md 's,(rule/proofs/Numbers.antt),(rule/proofs/Number.antt),' 'docs/REQUESTS.md: there is no rule/proofs/Number.antt'
+seeded docs/CONTRACTS.md 's,`rest-flat` (session,`rest-flats` (session,' 'docs/CONTRACTS.md: session/proofs/Rules.antt does not define rest-flats'
 seeded crates.txt '/^text:/d' 'crates.txt does not have text'
 echo "audit: $seen seeded faults found"

@@ -3,8 +3,8 @@
 1. Every function that has a `requires` is called, step by step, from a program's main or from a call for C; these ask nothing. As many functions have no
    `ensures` as docs/AUDIT.md says, all of them in the programs.
 2. docs/AUDIT.md has every definition of specs/ at its crate and file, and no other. Definitions are written in four ways and in no other.
-3. Names with a path behind them are defined in that file; every other name occurs somewhere in the tree; an edit that docs/CONTRACTS.md names is there, and every edit is
-   named and counted.
+3. In the README and in every document of docs/, names with a path behind them are defined in that file, and every other name occurs somewhere in the tree, but for
+   docs/REQUESTS.md, which names what is still to come. An edit that docs/CONTRACTS.md names is there, and every edit is named and counted.
 """
 import pathlib
 import re
@@ -125,20 +125,22 @@ for place in ("crates", "host", "tests", "speed", "examples"):
             tokens |= set(re.findall(r"[A-Za-z_][\w-]*", file.read_text(encoding="utf-8", errors="replace"))) | {file.name, file.stem}
         elif file.is_dir():
             tokens.add(file.name)
-for document in ("CONTRACTS.md", "AUDIT.md", "DECISIONS.md", "NOTES.md", "REQUESTS.md"):
-    text = re.sub(r"\s+", " ", (root / "docs" / document).read_text(encoding="utf-8"))
-    if document != "REQUESTS.md":  # it names what is still to come
+for document in ("README.md", *(f"docs/{file.name}" for file in sorted((root / "docs").glob("*.md")))):
+    text = re.sub(r"\s+", " ", (root / document).read_text(encoding="utf-8"))
+    if document != "docs/REQUESTS.md":  # it names what is still to come
         for name in sorted({part for name in re.findall(r"`([A-Za-z_][\w-]*(?:::[a-z_]+)?)`", text) for part in name.split("::")} - tokens):
-            faults.append(f"docs/{document}: there is no {name}")
+            if re.fullmatch("(?:[0-9a-f]{2})+", name):  # bytes
+                continue
+            faults.append(f"{document}: there is no {name}")
     for names, path in re.findall(r"((?:`[^`]+`(?:, | and ))*`[^`]+`),? \(([a-z_]+/(?:specs|proofs)[^)\s]*?)[,;)]", text):
         files = files_at(path)
         if not files or not all(file.exists() for file in files):
-            faults.append(f"docs/{document}: there is no {path}")
+            faults.append(f"{document}: there is no {path}")
             continue
         for name in names_of(names):
             pathed += 1
             if not defines(files, name):
-                faults.append(f"docs/{document}: {path} does not define {name}")
+                faults.append(f"{document}: {path} does not define {name}")
 edits = {f"{crate}/{file.stem}" for crate in listed for file in (crates / crate / "must-fail").glob("*.edit")}
 contracts = (root / "docs/CONTRACTS.md").read_text(encoding="utf-8")
 ties = contracts.split("## Ties")[1].split("\n## ")[0]
