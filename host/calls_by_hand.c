@@ -2,6 +2,7 @@
  * simulator. The fault is the number in the environment variable FAULT; host/faults.txt says what each is. */
 #include "by_hand.h"
 #include "krasvome.h"
+#include "session_bytes.h"
 #include "steps_by_hand.h"
 
 #include <stdlib.h>
@@ -30,15 +31,16 @@ static size_t card_length(const uint8_t *b)
 /* A vector by an engine, from where the words end: the history stands in the words. Returns the steps done. */
 static int run(struct hand *h, int engine, const uint8_t *vector)
 {
-    if (engine == FIELDS)
+    hand_ends(h, h->before);
+    if (engine == FIELDS) {
+        for (int i = 0; FAULT(2) && i < h->inputs; i++)
+            h->before[h->input[i]] = vector[i];
         return hand_vector(h, vector), 0;
-    uint8_t before[SIM_NETS];
-    for (int n = 0; n < h->nets; n++)
-        before[n] = (uint8_t)(h->word[n] >> 63);
-    int done = hand_steps_vector(&list, h, before, vector);
+    }
+    int done = hand_steps_vector(&list, h, h->before, vector);
     memcpy(h->word, list.word, sizeof list.word);
-    for (int n = 0; n < h->nets; n++)
-        h->before[n] = FAULT(33) ? (uint8_t)(h->word[n] & 1) : before[n];
+    for (int n = 0; FAULT(33) && n < h->nets; n++)
+        h->before[n] = (uint8_t)(h->word[n] & 1);
     return done;
 }
 
@@ -46,7 +48,7 @@ static void rest(struct hand *h, const uint8_t *vector)
 {
     hand_rest(h, &held, vector);
     for (int g = 0; FAULT(17) && g < h->gates; g++)
-        h->word[h->order[g]] ^= 1;
+        h->word[h->gate[g].net] ^= 1;
 }
 
 static int is_clear(const uint8_t *b, size_t from, size_t to)
@@ -74,20 +76,20 @@ static int opened(struct hand *h, const uint8_t *b, size_t length)
         return FAULT(41) || is_clear(b, 0, KRASVOME_SESSION) ? 0 : 12;
     int state = FAULT(14) && b[0] > STEPS ? STEPS : b[0];
     size_t card = card_length(b);
-    for (; FAULT(97) && card > 0 && (card > 5380 || sim_load(&held, b + 515, card)); card--)
+    for (; FAULT(97) && card > 0 && (card > LONGEST_CARD || sim_load(&held, b + CARD_AT, card)); card--)
         ;
-    if (state > STEPS || card > 5380 || sim_load(&held, b + 515, card))
+    if (state > STEPS || card > LONGEST_CARD || sim_load(&held, b + CARD_AT, card))
         return 12;
     size_t inputs = (size_t)held.inputs, older = state >= FIELDS ? inputs : 0, last = state >= 2 ? inputs : 0;
-    if (!is_clear(b, FAULT(98) ? KRASVOME_SESSION - 1 : 515 + card, KRASVOME_SESSION - (size_t)FAULT(15)) || !room_fits(b + 3, older) || !room_fits(b + 259, last))
+    if (!is_clear(b, FAULT(98) ? CARD_TO - 1 : CARD_AT + card, CARD_TO - (size_t)FAULT(15)) || !room_fits(b + OLDER_AT, older) || !room_fits(b + LAST_AT, last))
         return 12;
     hand_load(h, &held);
     hand_steps_load(&list, h);
     if (state == 2)
-        rest(h, b + 259);
+        rest(h, b + LAST_AT);
     if (state >= FIELDS) {
-        rest(h, b + 3);
-        run(h, state, b + 259);
+        rest(h, b + OLDER_AT);
+        run(h, state, b + LAST_AT);
     }
     return 0;
 }
@@ -141,11 +143,11 @@ uint64_t krasvome_load(uint8_t *b, size_t length, const uint8_t *card, size_t si
         memset(b, 0, KRASVOME_SESSION);
     if (number)
         return answer(LOAD, b, card != NULL, 1, number, 0);
-    memset(b + (FAULT(45) ? 515 : 0), 0, KRASVOME_SESSION - (FAULT(45) ? 515 : 0));
+    memset(b + (FAULT(45) ? CARD_AT : 0), 0, CARD_TO - (FAULT(45) ? CARD_AT : 0));
     b[0] = FAULT(87) ? 2 : 1;
     b[1] = (uint8_t)(size & 255);
     b[2] = (uint8_t)(size >> 8);
-    memcpy(b + 515, card, size);
+    memcpy(b + CARD_AT, card, size);
     return answer(LOAD, b, 1, 1, 0, fresh.nets);
 }
 
@@ -179,9 +181,9 @@ uint64_t krasvome_rest(uint8_t *b, size_t length, const uint8_t *v, size_t size)
     if (number)
         return answer(REST, b, v != NULL, 1, number, 0);
     b[0] = 2;
-    memset(b + 3, 0, FAULT(54) ? 0 : 256);
-    memset(b + 259, 0, 256);
-    memcpy(b + 259, v, size);
+    memset(b + OLDER_AT, 0, FAULT(54) ? 0 : 256);
+    memset(b + LAST_AT, 0, 256);
+    memcpy(b + LAST_AT, v, size);
     return answer(REST, b, 1, 1, 0, 0);
 }
 
@@ -189,9 +191,9 @@ static void keep_vector(uint8_t *b, int engine, const uint8_t *v, size_t size)
 {
     b[0] = (uint8_t)(FAULT(13) ? FIELDS : engine);
     if (!FAULT(16))
-        memcpy(b + 3, b + 259, 256);
-    memset(b + 259, 0, 256);
-    memcpy(b + 259, v, size);
+        memcpy(b + OLDER_AT, b + LAST_AT, 256);
+    memset(b + LAST_AT, 0, 256);
+    memcpy(b + LAST_AT, v, size);
     if (FAULT(37))
         b[KRASVOME_SESSION] = 1;
 }

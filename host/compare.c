@@ -10,6 +10,7 @@
  * it would be: tests/host.sh asks for a seeded fault of each. */
 #include "krasvome.h"
 #include "random_cards.h"
+#include "session_bytes.h"
 #include "simulator.h"
 
 #include <stdio.h>
@@ -138,10 +139,10 @@ static void check_session(const char *what, const char *by, const struct session
 {
     uint8_t want[KRASVOME_SESSION + 1] = {k->state, (uint8_t)(card_length & 255), (uint8_t)(card_length >> 8)};
     if (k->state > RESTED)
-        memcpy(want + 3, k->older, inputs);
+        memcpy(want + OLDER_AT, k->older, inputs);
     if (k->state >= RESTED)
-        memcpy(want + 259, k->last, inputs);
-    memcpy(want + 515, file, card_length);
+        memcpy(want + LAST_AT, k->last, inputs);
+    memcpy(want + CARD_AT, file, card_length);
     for (size_t i = 0; i < sizeof want; i++)
         check_by(what, by, want[i], k->bytes[i]);
 }
@@ -277,7 +278,7 @@ static void try_calls(struct random_source *r, const struct sim *s, const struct
 /* Changes a session's bytes to ones that no call left; 0: not this time. */
 static int damage_session(struct random_source *r, const struct session *k, size_t inputs, uint8_t *b)
 {
-    size_t end = 515 + card_length, past = KRASVOME_SESSION - end, i = random_below(r, 512);
+    size_t end = CARD_AT + card_length, past = CARD_TO - end, i = random_below(r, 512);
     switch (random_below(r, 7)) {
     case 0: /* no such state */
         b[0] = (uint8_t)(5 + random_below(r, 251));
@@ -293,12 +294,12 @@ static int damage_session(struct random_source *r, const struct session *k, size
         return 1;
     case 4: /* a vector's byte that is not 0 or 1, or a byte where there is no vector */
         if (i % 256 < inputs && (i < 256 ? k->state > RESTED : k->state >= RESTED))
-            b[3 + i] = (uint8_t)(2 + random_below(r, 254));
+            b[OLDER_AT + i] = (uint8_t)(2 + random_below(r, 254));
         else
-            b[3 + i] = (uint8_t)(1 + random_below(r, 255));
+            b[OLDER_AT + i] = (uint8_t)(1 + random_below(r, 255));
         return 1;
     case 5: /* the last byte */
-        b[KRASVOME_SESSION - 1] ^= 1;
+        b[CARD_TO - 1] ^= 1;
         return past > 0;
     default: /* any byte past the card */
         if (past)

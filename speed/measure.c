@@ -1,5 +1,5 @@
 /* Times of the engines on one card, as the mean of many vectors, with a given part of the inputs changing. One line: nets, gates, depth, steps, inputs, percent; then
- * nanoseconds a vector: the library's field engine inside the call that runs many vectors, the same algorithm by hand, the event-driven simulator; the library's step
+ * nanoseconds a vector: the library's field engine inside the call that runs many vectors, the same pass in the best C by hand, the event-driven simulator; the library's step
  * engine inside the call that runs many vectors by steps, the same algorithm by hand, the same with all reads looked up ahead; a call for one vector by fields and by
  * steps, each of which makes the session again from its bytes; last the part of the steps, in a hundred, that change their net. The words of each are compared with the
  * simulator's.
@@ -102,14 +102,14 @@ int main(int argc, char **argv)
     }
     hand_rest(&h, &s, rest);
     for (size_t k = 0; k < CALLS; k++) {
+        hand_ends(&h, before + k * nets);
         hand_vector(&h, vectors + k * n);
-        memcpy(before + k * nets, h.before, nets);
         if (memcmp(h.word, wanted + k * nets, nets * sizeof *words))
             return 1;
-        hand_steps_vector(&st, &h, h.before, vectors + k * n);
+        hand_steps_vector(&st, &h, before + k * nets, vectors + k * n);
         if (memcmp(st.word, h.word, nets * sizeof *words))
             return 1;
-        hand_steps_ready(&st, &h, h.before, vectors + k * n);
+        hand_steps_ready(&st, &h, before + k * nets, vectors + k * n);
         if (memcmp(st.word, h.word, nets * sizeof *words))
             return 1;
     }

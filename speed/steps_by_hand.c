@@ -4,8 +4,8 @@ static void make_list(struct hand_steps *st, const struct hand *h)
 {
     int k = 0;
     for (int g = 0; g < h->gates; g++)
-        for (uint64_t left = st->set[h->order[g]]; left; left &= left - 1) {
-            st->net[k] = (uint16_t)h->order[g];
+        for (uint64_t left = st->set[h->gate[g].net]; left; left &= left - 1) {
+            st->gate[k] = (uint8_t)g;
             st->time[k++] = (uint8_t)__builtin_ctzll(left);
         }
     st->steps = k;
@@ -17,11 +17,10 @@ void hand_steps_load(struct hand_steps *st, const struct hand *h)
         st->set[n] = 1;
     st->variable[SIM_NETS] = 0;
     for (int g = 0; g < h->gates; g++) {
-        int n = h->order[g];
         uint64_t set = 0;
-        for (int p = 0; p < h->pins[n]; p++)
-            set |= st->set[h->pin[n][p]];
-        st->set[n] = set << 1;
+        for (int p = 0; p < h->gate[g].pins; p++)
+            set |= st->set[h->gate[g].pin[p]];
+        st->set[h->gate[g].net] = set << 1;
     }
     make_list(st, h);
 }
@@ -29,8 +28,8 @@ void hand_steps_load(struct hand_steps *st, const struct hand *h)
 void hand_steps_look_up(struct hand_steps *st, const struct hand *h)
 {
     for (int k = 0; k < st->steps; k++)
-        for (int p = 0; p < h->pins[st->net[k]]; p++) {
-            uint16_t from = h->pin[st->net[k]][p];
+        for (int p = 0; p < h->gate[st->gate[k]].pins; p++) {
+            uint16_t from = h->gate[st->gate[k]].pin[p];
             st->read[k][p] = (struct hand_read){from, (uint8_t)hand_largest_below(st->set[from], st->time[k])};
         }
 }
@@ -38,7 +37,9 @@ void hand_steps_look_up(struct hand_steps *st, const struct hand *h)
 static void start(struct hand_steps *st, const struct hand *h, const uint8_t *before, const uint8_t *vector)
 {
     for (int n = 0; n < h->nets; n++)
-        st->variable[n] = before[n] && !(FAULT(10) && h->pins[n]) ? ~UINT64_C(0) : 0;
+        st->variable[n] = before[n] ? ~UINT64_C(0) : 0;
+    for (int g = 0; FAULT(10) && g < h->gates; g++)
+        st->variable[h->gate[g].net] = 0;
     for (int i = 0; i < h->inputs; i++)
         st->variable[h->input[i]] = vector[i] ? ~UINT64_C(0) : 0;
 }
@@ -73,12 +74,13 @@ static inline int read_at(const struct hand_steps *st, int pin, int time)
 
 static void do_step(struct hand_steps *st, const struct hand *h, int k)
 {
-    int n = st->net[k], time = st->time[k], type = h->type[n], pins = h->pins[n];
-    const uint16_t *pin = h->pin[n];
+    const struct hand_gate *g = &h->gate[st->gate[k]];
+    const uint16_t *pin = g->pin;
+    int time = st->time[k], type = g->type, pins = g->pins;
     uint64_t known = st->variable[pin[0]] >> read_at(st, pin[0], time) & 1;
     for (int p = 1; p < pins; p++)
         known = hand_with_pin(type, known, st->variable[pin[p]] >> read_at(st, pin[p], time) & 1);
-    put(st, n, time, known ^ (uint64_t)(type & 1));
+    put(st, g->net, time, known ^ (uint64_t)(type & 1));
 }
 
 int hand_steps_vector(struct hand_steps *st, const struct hand *h, const uint8_t *before, const uint8_t *vector)
@@ -105,12 +107,13 @@ void hand_steps_ready(struct hand_steps *st, const struct hand *h, const uint8_t
 {
     start(st, h, before, vector);
     for (int k = 0; k < st->steps; k++) {
-        int n = st->net[k], type = h->type[n], pins = h->pins[n];
+        const struct hand_gate *g = &h->gate[st->gate[k]];
+        int type = g->type, pins = g->pins;
         const struct hand_read *read = st->read[k];
         uint64_t known = st->variable[read[0].net] >> read[0].time & 1;
         for (int p = 1; p < pins; p++)
             known = hand_with_pin(type, known, st->variable[read[p].net] >> read[p].time & 1);
-        put(st, n, st->time[k], known ^ (uint64_t)(type & 1));
+        put(st, g->net, st->time[k], known ^ (uint64_t)(type & 1));
     }
     fill(st, h);
 }

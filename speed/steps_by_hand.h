@@ -17,8 +17,7 @@ struct hand_steps {
     int steps;
     uint64_t set[SIM_NETS + 1]; /* an open pin names place 256, whose set is {0} and whose variables are 0 */
     uint64_t variable[SIM_NETS + 1], word[SIM_NETS];
-    uint16_t net[HAND_STEPS];
-    uint8_t time[HAND_STEPS];
+    uint8_t gate[HAND_STEPS], time[HAND_STEPS]; /* a gate by its place in the order */
     struct hand_read read[HAND_STEPS][SIM_PINS];
 };
 

@@ -49,4 +49,6 @@ seeded docs/NOTES.md 's/`noTime`/`noTimes`/' 'docs/NOTES.md: there is no noTimes
 seeded docs/REQUESTS.md 's,(rule/proofs/Numbers.antt),(rule/proofs/Number.antt),' 'docs/REQUESTS.md: there is no rule/proofs/Number.antt'
 seeded docs/CONTRACTS.md 's,`rest-flat` (session,`rest-flats` (session,' 'docs/CONTRACTS.md: session/proofs/Rules.antt does not define rest-flats'
 seeded crates.txt '/^text:/d' 'crates.txt does not have text'
+seeded host/krasvome.h 's/define KRASVOME_SESSION /&1/' 'host/krasvome.h does not say that a session has'
+seeded crates/making/src/lib.rt 's/OLDER_AT + older/259 + older/' 'making/src/lib.rt writes 259 out'
 echo "audit: $seen seeded faults found"

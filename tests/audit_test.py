@@ -5,9 +5,12 @@
 2. docs/AUDIT.md has every definition of specs/ at its crate and file, and no other. Definitions are written in four ways and in no other.
 3. In the README and in every document of docs/, names with a path behind them are defined in that file, and every other name occurs somewhere in the tree, but for
    docs/REQUESTS.md, which names what is still to come. An edit that docs/CONTRACTS.md names is there, and every edit is named and counted.
+4. host/krasvome.h has the length of a session that host_bytes has. No file of host_bytes, or of a crate that uses it, writes out where a part of a session stands, but for
+   the definitions and the constants themselves.
 """
 import pathlib
 import re
+import subprocess
 import sys
 
 root = pathlib.Path(sys.argv[1])
@@ -78,20 +81,21 @@ for place in sorted(crates.iterdir()):
 defined = {}
 for crate in listed:
     for file in sorted((crates / crate / "specs").glob("**/*.antt")):
-        if file.parent.name != "specs":
+        place = str(file.relative_to(crates / crate / "specs"))
+        if file.parent.name not in ("specs", "Inner"):
             faults.append(f"{crate}/specs has a folder, {file.parent.name}")
         for line in file.read_text(encoding="utf-8").splitlines():
             other = re.match(r"(?:(?:pub|abbrev|unfoldable) )?([^\s:]+) : ", line) or re.match(r" *(?:abbrev|unfoldable|data|record) (?!pub )([^\s:]+) .*:", line)
             if other and not re.match(r" *(?:abbrev pub|unfoldable pub|pub data|pub record|module|--|infix)", line):
-                faults.append(f"{crate}/specs/{file.name} defines {other.group(1)} in another way")
+                faults.append(f"{crate}/specs/{place} defines {other.group(1)} in another way")
         for name in re.findall(r"^ *(?:abbrev pub|unfoldable pub|pub data|pub record) ([^\s:]+)", file.read_text(encoding="utf-8"), flags=re.M):
-            defined.setdefault((crate, name), set()).add(file.name)
+            defined.setdefault((crate, name), set()).add(place)
 said = {}
 for section in re.split(r"^### ", audit, flags=re.M)[1:]:
     crate = section.split("\n")[0].strip()
     if crate not in listed:
         continue
-    for row in re.findall(r"^\| (`[^|]*) \| (\w+\.antt) \|", section.split("\n## ")[0], flags=re.M):
+    for row in re.findall(r"^\| (`[^|]*) \| ([\w/]+\.antt) \|", section.split("\n## ")[0], flags=re.M):
         for name in names_of(row[0]):
             said.setdefault((crate, name), set()).add(row[1])
 for key in sorted(set(defined) | set(said)):
@@ -100,6 +104,23 @@ for key in sorted(set(defined) | set(said)):
         faults.append(f"docs/AUDIT.md does not have {key[1]} ({key[0]}/specs/{file})")
     for file in sorted(there - here):
         faults.append(f"docs/AUDIT.md has {key[1]}, which {key[0]}/specs/{file} does not define")
+
+for crate in listed:
+    for file in sorted((crates / crate / "specs").glob("**/*.antt")):
+        text, place = file.read_text(encoding="utf-8"), file.relative_to(crates)
+        inner = file.parent.name == "Inner"
+        if not inner and re.search(r"^use \S*\.specs\.Inner\.", text, flags=re.M):
+            faults.append(f"{place} is built from inner definitions")
+        if inner:
+            head = " ".join(line[3:] for line in text[: text.index("\nuse ")].splitlines())
+            if not head.startswith("Inner: "):
+                faults.append(f"{place} does not say that it is inner")
+            for names, path in re.findall(r"((?:`[^`]+`(?:, | and ))*`[^`]+`) \(([a-z_]+/proofs/\w+\.antt)\)", head):
+                for name in names_of(names):
+                    if not (crates / path).exists() or not re.search(rf"^ *pub {re.escape(name)} ", (crates / path).read_text(encoding="utf-8"), flags=re.M):
+                        faults.append(f"{place} is tied by {name} ({path}), which is not there")
+if re.search(r"^use \S*\.specs\.Inner\.", (crates / "demands/proofs/Demands.antt").read_text(encoding="utf-8"), flags=re.M):
+    faults.append("the demands speak of inner definitions")
 
 # --- 3. names with a path behind them, and edits
 
@@ -141,24 +162,37 @@ for document in ("README.md", *(f"docs/{file.name}" for file in sorted((root / "
             pathed += 1
             if not defines(files, name):
                 faults.append(f"{document}: {path} does not define {name}")
-edits = {f"{crate}/{file.stem}" for crate in listed for file in (crates / crate / "must-fail").glob("*.edit")}
 contracts = (root / "docs/CONTRACTS.md").read_text(encoding="utf-8")
-ties = contracts.split("## Ties")[1].split("\n## ")[0]
-named = set()
-for row in re.findall(r"^\| [^|]* \| ([^|]*) \|", ties, flags=re.M):
-    crate = None
-    for word in re.split(r"[,;] ", re.sub(r" \([^)]*\)", "", row)):
-        found = re.fullmatch(r"(?:([a-z_]+)/)?([\w-]+)", word.strip())
-        if found:
-            crate = found.group(1) or crate
-            if crate:
-                named.add(f"{crate}/{found.group(2)}")
-if f"Of each of the {len(edits)} edits" not in contracts:
-    faults.append(f"docs/CONTRACTS.md does not say that there are {len(edits)} edits")
-for edit in sorted(named - edits):
-    faults.append(f"docs/CONTRACTS.md: there is no edit {edit}")
-for edit in sorted(edits - named):
-    faults.append(f"docs/CONTRACTS.md does not name the edit {edit}")
+edits = {f"{crate}/{file.stem}": file.read_text(encoding="utf-8") for crate in listed for file in (crates / crate / "must-fail").glob("*.edit")}
+for edit, text in sorted(edits.items()):
+    if contracts.count(f"| {edit} |") != 1 or len(re.findall(rf"(?<![\w/-]){re.escape(edit)}(?![\w-])", contracts)) != 1:
+        faults.append(f"docs/CONTRACTS.md does not name the edit {edit} once")
+    for said in ("of", "wrong", "at"):
+        if not re.search(rf"^{said}: \S", text, flags=re.M):
+            faults.append(f"{edit} does not say what it is '{said}'")
+theorems = re.findall(r"`([a-z0-9]+(?:-[a-z0-9]+)+)`", contracts.split("<!-- edits -->")[0])
+for name in sorted({name for name in theorems if theorems.count(name) > 1}):
+    faults.append(f"docs/CONTRACTS.md names {name} {theorems.count(name)} times")
+if subprocess.run([sys.executable, str(root / "docs/figures"), "--check"], stdout=subprocess.DEVNULL).returncode:
+    faults.append("docs/figures would write something else")
+if subprocess.run([sys.executable, str(root / "docs/drawing"), "-"], stdout=subprocess.PIPE, text=True).stdout != (root / "docs/crates.svg").read_text(encoding="utf-8"):
+    faults.append("docs/drawing would draw something else")
+
+# --- 4. the layout of a session
+
+layout = {}
+constant = re.compile(r"^pub const (\w+): usize = (.*);$", flags=re.M)
+for name, value in constant.findall((crates / "host_bytes/src/lib.rt").read_text(encoding="utf-8")):
+    layout[name] = eval(value, {}, layout)
+if f"#define KRASVOME_SESSION {layout['SESSION_LENGTH']}\n" not in (root / "host/krasvome.h").read_text(encoding="utf-8"):
+    faults.append(f"host/krasvome.h does not say that a session has {layout['SESSION_LENGTH']} bytes")
+places = {str(place) for place in layout.values() if place > 256}
+for crate in re.findall(r"^(?=.*\bhost_bytes\b)(\w+):", (root / "crates.txt").read_text(), flags=re.M):
+    for file in sorted((crates / crate).rglob("*")):
+        if file.suffix in (".rt", ".antt") and file.name != "Layout.antt":
+            numbers = re.findall(r"\d[\d,]*", constant.sub("", file.read_text(encoding="utf-8")))
+            for place in sorted(places & {number.replace(",", "") for number in numbers}):
+                faults.append(f"{file.relative_to(crates)} writes {place} out")
 
 for fault in faults:
     print(f"audit: {fault}")

@@ -5,31 +5,29 @@ use mathlib.Core.List.{List}
 use Prim.Native.Nat.{ℕ, _≤_, _<_}
 use native.Mathlib.Omega.{arith}
 use lib.Dec.{eqb, leb}
-use lib.ListN.{length, getD}
+use lib.ListN.{length}
 use borrow.Author.Tests.{eqb-true, le-leb, lt-leb}
 use Rattle.lists.proofs.Order.{at-in}
 use Rattle.rule.specs.Net.{Net}
 use Rattle.rule.specs.Steps.{Step, stepList, noStep}
 use Rattle.rule.specs.declared.Refusal.{Refusal}
-use Rattle.rule.specs.declared.Refusal.the-variants.{NotReady, OrderLength, OrderEntry, OrderEarly, TooManyAsked, NoRoom}
+use Rattle.rule.specs.declared.Refusal.the-variants.{OrderLength, OrderEntry, OrderEarly, TooManyAsked, NoRoom}
 use Rattle.rule.proofs.StepLists.{list-only}
-use Rattle.wiring.specs.declared.Verdict.{Verdict}
-use Rattle.wiring.specs.declared.Verdict.the-variants.{Refused as Faulty, Passed}
-use Rattle.inputs.specs.declared.Inputs.{Inputs}
-use Rattle.inputs.specs.Inputs.{vectorFits, inputsRead}
+use Rattle.card_wiring.specs.declared.Verdict.{Verdict}
+use Rattle.card_wiring.specs.declared.Verdict.the-variants.{Refused as Faulty, Passed}
+use Rattle.inputs.specs.Inputs.{given, vectorJudged}
 use Rattle.card.specs.declared.Session.{Session}
 use Rattle.card.specs.Session.{cardOf}
 use Rattle.card.specs.Held.{HasCard}
 use Rattle.session.specs.declared.Moved.{Moved}
 use Rattle.session.specs.Moves.{refusedMove}
-use Rattle.session.proofs.Answers.{verdict-is as read-fits, values-given}
-use Rattle.orders.specs.Orders.{entriesFit, orderReady, orderJudged}
-use Rattle.orders.specs.Ready.{StepEntry, judgedIn}
-use Rattle.orders.proofs.Judging.{entries-of}
-use Rattle.listing.specs.Listing.{stepsIn, gatesIn, Holds}
-use Rattle.listing.proofs.Cards.{list-held, list-total, list-few, step-low}
-use Rattle.listing.proofs.Lists.{held-net, held-time}
-use Rattle.bench.specs.Taken.{Naming, Taken}
+use Rattle.step_orders.specs.Orders.{entriesFit, orderReady, orderJudged}
+use Rattle.step_orders.specs.Inner.Ready.{StepEntry, judgedIn}
+use Rattle.step_orders.proofs.Judging.{entries-of}
+use Rattle.step_list.specs.Inner.Listing.{stepsIn, gatesIn, Holds}
+use Rattle.step_list.proofs.Cards.{list-held, list-total, list-few, step-low}
+use Rattle.step_list.proofs.Lists.{held-net, held-time}
+use Rattle.bench.specs.Inner.Taken.{Naming, Taken}
 use Rattle.bench.specs.Bench.{Benched, benchRefused, benchDone, benchOrder, benchVector, benchOf}
 use Rattle.bench.proofs.Ties.{judged-is}
 
@@ -59,7 +57,7 @@ module _ (s : Session) (h : HasCard s) where
         let r = step-low s h _ (list-only c _ (at-in (stepList c) e noStep b)) in
         let n = list-named .net-is e b in
         let t = list-named .time-is e b in
-        record { number = omega (arith, list-few s h held); net = omega (arith, r .0); time = omega (arith, r .2) }
+        record { number = omega (arith, list-few s h held); net = omega (arith, r .0); time = record { late = omega (arith, r .1); low = omega (arith, r .2) } }
 
     module _ (order : List ℕ) (verdict : Verdict) (judged : verdict ≡ judgedIn (s .counts) (s .places) (s .sets) nets times total order) where
       pub verdict-is : verdict ≡ orderJudged c order
@@ -108,26 +106,14 @@ module _ (s : Session) (new : ℕ → Bool) (order : List ℕ) (k : ℕ) (room :
     pub order-done : (r : Benched) → k ≤ total → total ≤ length room → r ≡ benchDone s new order k room → r ≡ answer (orderJudged (cardOf s) order)
     order-done r l b q = q ∙ by-tests true true (le-leb k steps (omega (arith, total-is))) (le-leb steps (length room) (omega (arith, total-is)))
 
--- A vector
+-- A vector judged
 
-module _ (s : Session) (v order : List ℕ) (k : ℕ) (room : List ℕ) where
-  abbrev answered : Bool → Verdict → Benched
-  answered rested fits = cond rested (benchVector s v order k room fits) (benchRefused s room NotReady)
-
-  of-tests : (a : Bool) (f : Verdict) → s .rested ≡ a → vectorFits (s .inputs) v ≡ f → answered a f ≡ benchOf s v order k room
+module _ (s : Session) (v order : List ℕ) (k : ℕ) (room : List ℕ) (x : Verdict) (e : x ≡ vectorJudged (s .rested) (s .inputs) v) where
+  -- 12, 10, 11
+  pub bench-refused-by : (why : Refusal) (m : Moved) → x ≡ Faulty why → m ≡ refusedMove s why → record { moved = m; room = room } ≡ benchOf s v order k room
   unfolding benchOf
-  of-tests a f ea ef = sym (ap (λ x. answered x (vectorFits (s .inputs) v)) ea ∙ ap (answered a) ef)
+  bench-refused-by why m q p = ap (λ y. record { moved = y; room = room }) p ∙ ap (benchVector s v order k room) (sym q ∙ e)
 
-  -- 12
-  pub bench-unrested : (m : Moved) → s .rested ≡ false → m ≡ refusedMove s NotReady → record { moved = m; room = room } ≡ benchOf s v order k room
-  bench-unrested m e q = ap (λ x. record { moved = x; room = room }) q ∙ of-tests false _ e refl
-
-  module _ (rested : s .rested ≡ true) (read : Inputs) (e : read ≡ inputsRead (s .kinds) (s .inputs) v) where
-    -- 10, 11
-    pub bench-faulty : (why : Refusal) (m : Moved) → read .verdict ≡ Faulty why → m ≡ refusedMove s why → record { moved = m; room = room } ≡ benchOf s v order k room
-    bench-faulty why m q p = ap (λ x. record { moved = x; room = room }) p ∙ of-tests true (Faulty why) rested (sym (read-fits s v read e) ∙ q)
-
-    pub bench-run : HasCard s → (r : Benched) → read .verdict ≡ Passed → r ≡ benchOrder s (λ n. getD (read .values) n false) order k room (orderJudged (cardOf s) order)
-        → r ≡ benchOf s v order k room
-    bench-run h r q p =
-        p ∙ ap (λ f. benchOrder s f order k room (orderJudged (cardOf s) order)) (values-given s v read e h q) ∙ of-tests true Passed rested (sym (read-fits s v read e) ∙ q)
+  pub bench-run : (r : Benched) → x ≡ Passed → r ≡ benchOrder s (given (s .kinds) v) order k room (orderJudged (cardOf s) order) → r ≡ benchOf s v order k room
+  unfolding benchOf
+  bench-run r q p = p ∙ ap (benchVector s v order k room) (sym q ∙ e)

@@ -17,27 +17,27 @@ use Rattle.rule.specs.Net.{Net}
 use Rattle.rule.specs.Rule.{value}
 use Rattle.rule.specs.Steps.{GoodOrder, stepList, stepAt}
 use Rattle.rule.specs.declared.Refusal.{Refusal}
-use Rattle.rule.specs.declared.Refusal.the-variants.{NotReady, OrderLength, OrderEntry, OrderEarly, TooManyAsked, NoRoom}
+use Rattle.rule.specs.declared.Refusal.the-variants.{OrderLength, OrderEntry, OrderEarly, TooManyAsked, NoRoom}
 use Rattle.rule.specs.declared.Answer.the-variants.{Done, Refused}
 use Rattle.rule.proofs.Runs.{take-in}
-use Rattle.wiring.specs.declared.Verdict.{Verdict}
-use Rattle.wiring.specs.declared.Verdict.the-variants.{Refused as Faulty, Passed}
-use Rattle.inputs.specs.Allowed.{Vector, Gets, gets-12}
-use Rattle.inputs.specs.Inputs.{given, vectorFits}
+use Rattle.card_wiring.specs.declared.Verdict.{Verdict}
+use Rattle.card_wiring.specs.declared.Verdict.the-variants.{Refused as Faulty, Passed}
+use Rattle.inputs.specs.Allowed.{Vector}
+use Rattle.inputs.specs.Inputs.{given, vectorJudged}
+use Rattle.inputs.proofs.Verdicts.{Judging, refused, passed, judging, gets-judged, vector-judged}
 use Rattle.card.specs.declared.Session.{Session}
 use Rattle.card.specs.Session.{cardOf}
 use Rattle.card.specs.Held.{HasCard}
 use Rattle.card.proofs.Kept.{card-fits}
 use Rattle.session.specs.Good.{Good}
 use Rattle.session.specs.Moves.{ends, movedBy}
-use Rattle.session.proofs.Refusals.{vector-fits, Fitting, misfit, fits, fitting, misfit-is, only-12}
 use Rattle.session.proofs.Kept.{moved-good}
-use Rattle.orders.specs.Orders.{stepsOf, orderJudged}
-use Rattle.orders.proofs.Judging.{Judgement, gets-15 as judged-15, gets-16 as judged-16, gets-17 as judged-17, taken, judgement, good-fit, good-passes}
-use Rattle.steps.specs.Runs.{Ran}
-use Rattle.steps.specs.Vector.{ranAlong, ranSession}
-use Rattle.steps.specs.AnyOrder.{AnyOrder}
-use Rattle.steps.proofs.Engines.{run-any-order, run-count}
+use Rattle.step_orders.specs.Orders.{stepsOf, orderJudged}
+use Rattle.step_orders.proofs.Judging.{Judgement, gets-15 as judged-15, gets-16 as judged-16, gets-17 as judged-17, taken, judgement, good-fit, good-passes}
+use Rattle.step_run.specs.Runs.{Ran}
+use Rattle.step_run.specs.Vector.{ranAlong, ranSession}
+use Rattle.step_run.specs.AnyOrder.{AnyOrder}
+use Rattle.step_run.proofs.Engines.{run-any-order, run-count}
 use Rattle.bench.specs.Bench.{Benched, notDone, byteAt, benchRefused, benchDone, benchOrder, benchVector, benchOf}
 use Rattle.bench.specs.Allowed.{stepCount, Entries, Reading, BenchGets, gets-vector, gets-15, gets-16, gets-17, gets-19, gets-18, Doing}
 
@@ -67,7 +67,7 @@ module _ (s : Session) (good : Good s) (v order : List ℕ) (k : ℕ) (room : Li
 
   pub bench-ruled : Ruling result
   unfolding benchOf
-  bench-ruled = go (s .rested) refl (vectorFits (s .inputs) v) (fitting (s .inputs) v)
+  bench-ruled = go (vectorJudged (s .rested) (s .inputs) v) (judging (s .rested) (s .inputs) v)
     where
       by-limits : s .rested ≡ true → Vector (s .inputs) v → GoodOrder c (stepsOf c order) → (a : Bool) → leb k (stepCount s) ≡ a → (b : Bool) → leb (stepCount s) (length room) ≡ b
           → Ruling (cond a (cond b (benchDone s new order k room) (benchRefused s room NoRoom)) (benchRefused s room TooManyAsked))
@@ -81,10 +81,9 @@ module _ (s : Session) (good : Good s) (v order : List ℕ) (k : ℕ) (room : Li
       by-order e w j (judged-17 l b o n) = refuses OrderEarly (gets-17 e w l (record { below = b; once = o }) n)
       by-order e w j (taken g) = by-limits e w g (leb k (stepCount s)) refl (leb (stepCount s) (length room)) refl
 
-      go : (a : Bool) → s .rested ≡ a → (f : Verdict) → Fitting (s .inputs) v f → Ruling (cond a (benchVector s v order k room f) (benchRefused s room NotReady))
-      go false e f w = refuses NotReady (gets-vector (gets-12 e))
-      go true e f (misfit r g) = refuses r (gets-vector (subst (λ b. Gets b (s .inputs) v r) (sym e) g))
-      go true e f (fits w) = by-order e w (orderJudged c order) (judgement c (holds e .accepted .free) (card-fits s (holds e) .pinned) order)
+      go : (x : Verdict) → Judging (s .rested) (s .inputs) v x → Ruling (benchVector s v order k room x)
+      go x (refused r g) = refuses r (gets-vector g)
+      go x (passed e w) = by-order e w (orderJudged c order) (judgement c (holds e .accepted .free) (card-fits s (holds e) .pinned) order)
 
   -- a refusal leaves the session and the room as they were, and its number applies
   pub bench-refused : (r : Refusal) → result .moved .answer ≡ Refused r → BenchGets s v order k room r × (result ≡ benchRefused s room r)
@@ -98,12 +97,12 @@ module _ (s : Session) (good : Good s) (v order : List ℕ) (k : ℕ) (room : Li
           not-refused e = let z : _≡_ {A = ℕ} 0 1 = unfold benchDone in cc in omega arith
 
   -- the tests, from their answers
-  by-vector : (e : s .rested ≡ true) (f : Verdict) → vectorFits (s .inputs) v ≡ f → result ≡ benchVector s v order k room f
+  by-vector : (x : Verdict) → vectorJudged (s .rested) (s .inputs) v ≡ x → result ≡ benchVector s v order k room x
   unfolding benchOf
-  by-vector e f q = ap (λ b. cond b (benchVector s v order k room (vectorFits (s .inputs) v)) (benchRefused s room NotReady)) e ∙ ap (benchVector s v order k room) q
+  by-vector x q = ap (benchVector s v order k room) q
 
   by-order : s .rested ≡ true → Vector (s .inputs) v → (j : Verdict) → orderJudged c order ≡ j → result ≡ benchOrder s new order k room j
-  by-order e w j q = by-vector e Passed (vector-fits (s .inputs) v w) ∙ ap (benchOrder s new order k room) q
+  by-order e w j q = by-vector Passed (vector-judged (s .rested) (s .inputs) v e w) ∙ ap (benchOrder s new order k room) q
 
   by-limits : s .rested ≡ true → Vector (s .inputs) v → GoodOrder c (stepsOf c order) → (a b : Bool) → leb k (stepCount s) ≡ a → leb (stepCount s) (length room) ≡ b
       → result ≡ cond a (cond b (benchDone s new order k room) (benchRefused s room NoRoom)) (benchRefused s room TooManyAsked)
@@ -150,12 +149,7 @@ module _ (s : Session) (good : Good s) (v order : List ℕ) (k : ℕ) (room : Li
 
   -- and a number that applies is given
   pub bench-refuses : (r : Refusal) → BenchGets s v order k room r → result ≡ benchRefused s room r
-  unfolding benchOf
-  bench-refuses r (gets-vector g) = go (s .rested) refl
-    where
-      go : (b : Bool) → s .rested ≡ b → result ≡ benchRefused s room r
-      go false e = ap (λ b. cond b (benchVector s v order k room (vectorFits (s .inputs) v)) (benchRefused s room NotReady)) e ∙ ap (benchRefused s room) (sym (only-12 (s .inputs) v (s .rested) r e g))
-      go true e = by-vector e (Faulty r) (misfit-is (s .inputs) v (s .rested) r e g)
+  bench-refuses r (gets-vector g) = by-vector (Faulty r) (gets-judged (s .rested) (s .inputs) v r g)
   bench-refuses r (gets-15 e w n) = by-order e w (Faulty OrderLength) (judged-as-15 e n)
   bench-refuses r (gets-16 e w l n) = by-order e w (Faulty OrderEntry) (judged-as-16 e l n)
   bench-refuses r (gets-17 e w l x n) = by-order e w (Faulty OrderEarly) (judged-as-17 e l x n)

@@ -5,7 +5,8 @@ use mathlib.Core.List.{List}
 use Prim.Native.Nat.{ℕ}
 use lib.ListN.{getD}
 use Rattle.word.specs.Word.{bit, val}
-use Rattle.bench.specs.Bench.{notDone, byteIn}
+use Rattle.bench.specs.Bench.{notDone}
+use Rattle.bench.specs.Inner.Taken.{byteIn}
 
 pub byte-not : (done b : Bool) → done ≡ false → notDone ≡ cond done (val b) notDone
 byte-not done b e = rw e

@@ -25,24 +25,25 @@ use Rattle.card.specs.Session.{cardOf, resting}
 use Rattle.card.specs.Held.{HasCard}
 use Rattle.card.proofs.Kept.{card-steps}
 use Rattle.session.specs.Moves.{ends}
-use Rattle.variables.specs.Variables.{historiesFrom}
-use Rattle.orders.specs.Orders.{stepsOf}
-use Rattle.orders.specs.Ready.{orderSteps}
-use Rattle.orders.proofs.Seen.{stands}
-use Rattle.listing.specs.Listing.{numbered}
-use Rattle.listing.proofs.Cards.{step-low}
-use Rattle.steps.specs.Runs.{Ran, ran, Doable, ordered}
-use Rattle.steps.specs.Vector.{startVars, ranAlong, ranSession}
-use Rattle.steps.proofs.Runs.{steps-doable}
-use Rattle.bench.specs.Taken.{Taken}
-use Rattle.bench.specs.Bench.{Benched, notDone, byteAt, byteIn, benchDone}
+use Rattle.step_vars.specs.Variables.{historiesFrom}
+use Rattle.step_orders.specs.Orders.{stepsOf}
+use Rattle.step_orders.specs.Inner.Ready.{orderSteps}
+use Rattle.step_orders.proofs.Seen.{stands}
+use Rattle.step_list.specs.Inner.Listing.{numberedStep}
+use Rattle.step_list.proofs.Cards.{step-low}
+use Rattle.step_run.specs.Runs.{Ran, ran}
+use Rattle.step_run.specs.Inner.Runs.{Doable, orderedSteps}
+use Rattle.step_run.specs.Vector.{startVars, ranAlong, ranSession}
+use Rattle.step_run.proofs.Runs.{steps-doable}
+use Rattle.bench.specs.Inner.Taken.{Taken, byteIn}
+use Rattle.bench.specs.Bench.{Benched, notDone, byteAt, benchDone}
 use Rattle.bench.proofs.Ties.{named-steps}
 
 -- the first entries, place by place
-ordered-first : (nets times order : List ℕ) (k : ℕ) → k ≤ length order → ordered nets times order k ≡ orderSteps nets times (take k order)
+ordered-first : (nets times order : List ℕ) (k : ℕ) → k ≤ length order → orderedSteps nets times order k ≡ orderSteps nets times (take k order)
 ordered-first nets times order k l =
-    sym (ap (map (numbered nets times)) (is-listed (λ i. getD order i 0) k 0 (take k order) (length-take-le k order l) (λ i b. getD-take k order i 0 b))
-    ∙ map-listed (numbered nets times) (λ i. getD order i 0) k)
+    sym (ap (map (numberedStep nets times)) (is-listed (λ i. getD order i 0) k 0 (take k order) (length-take-le k order l) (λ i b. getD-take k order i 0 b))
+    ∙ map-listed (numberedStep nets times) (λ i. getD order i 0) k)
 
 module _ (s : Session) (h : HasCard s) (nets times : List ℕ) (total : ℕ) (order : List ℕ) (t : Taken (cardOf s) nets times total order) where
   abbrev c : List Net
@@ -63,12 +64,12 @@ module _ (s : Session) (h : HasCard s) (nets times : List ℕ) (total : ℕ) (or
   number-net e l = omega (arith, t .named .net-is e (omega (arith, t .total-is)), step-low s h _ (number-step e l) .0)
 
   module _ (k : ℕ) (short : k ≤ total) where
-    pub steps-first : ordered nets times order k ≡ stepsOf c (take k order)
+    pub steps-first : orderedSteps nets times order k ≡ stepsOf c (take k order)
     steps-first =
         ordered-first nets times order k (omega (arith, t .long))
         ∙ named-steps (stepList c) nets times (t .named) (take k order) (λ e m. omega (arith, t .total-is, t .below e (take-in k order e m)))
 
-    pub first-doable : Doable (s .types) (s .counts) (ordered nets times order k)
+    pub first-doable : Doable (s .types) (s .counts) (orderedSteps nets times order k)
     first-doable =
         subst (Doable (s .types) (s .counts)) (sym steps-first)
         (steps-doable s h (stepsOf c (take k order)) (λ j m. let o = out-map (stepAt (stepList c)) (take k order) j m in subst (IsStep c) (sym (o .2)) (number-step (o .0) (t .below (o .0) (take-in k order (o .0) (o .1))))))
@@ -76,7 +77,7 @@ module _ (s : Session) (h : HasCard s) (nets times : List ℕ) (total : ℕ) (or
     -- what they leave
     module _ (new : ℕ → Bool) (vars after : List ℕ) (count : ℕ) (done : List Bool) (room written : List ℕ)
         (started : vars ≡ startVars s new)
-        (made : record { words = after; count = count } ≡ ran (s .types) (s .counts) (s .places) (s .sets) vars (ordered nets times order k))
+        (made : record { words = after; count = count } ≡ ran (s .types) (s .counts) (s .places) (s .sets) vars (orderedSteps nets times order k))
         (marked : done ≡ listed (stands order k) 4096)
         (filled-is : written ≡ filled (byteIn after nets times done) total room) where
       abbrev left : Ran

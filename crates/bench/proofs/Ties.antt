@@ -28,18 +28,18 @@ use Rattle.rule.specs.declared.Refusal.the-variants.{OrderLength, OrderEntry, O
 use Rattle.rule.proofs.Nets.{at-open, at-net, not-open, net-open}
 use Rattle.rule.proofs.StepRuns.{ahead, read-there}
 use Rattle.rule.proofs.StepLists.{list-only}
-use Rattle.wiring.specs.declared.Verdict.the-variants.{Refused, Passed}
+use Rattle.card_wiring.specs.declared.Verdict.the-variants.{Refused, Passed}
 use Rattle.card.specs.declared.Session.{Session}
 use Rattle.card.specs.Session.{cardOf}
 use Rattle.card.specs.Held.{HasCard}
 use Rattle.card.proofs.Kept.{card-fits}
-use Rattle.variables.specs.Variables.{heldIn}
-use Rattle.orders.specs.Orders.{entriesFit, stepsOf, orderReady, orderJudged}
-use Rattle.orders.specs.Ready.{orderSteps, doneOf, markIn, readyIn, judgedIn}
-use Rattle.orders.proofs.Judging.{entries-of}
-use Rattle.listing.proofs.Cards.{step-low}
-use Rattle.steps.proofs.Words.{reads-same}
-use Rattle.bench.specs.Taken.{Naming}
+use Rattle.step_vars.specs.Variables.{heldIn}
+use Rattle.step_orders.specs.Orders.{entriesFit, stepsOf, orderReady, orderJudged}
+use Rattle.step_orders.specs.Inner.Ready.{orderSteps, doneOf, markIn, readyIn, judgedIn}
+use Rattle.step_orders.proofs.Judging.{entries-of}
+use Rattle.step_list.proofs.Cards.{step-low}
+use Rattle.step_run.proofs.Words.{reads-same}
+use Rattle.bench.specs.Inner.Taken.{Naming}
 
 -- Bits
 

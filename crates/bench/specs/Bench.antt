@@ -1,7 +1,7 @@
 -- The bench run: "It takes a vector, an order and a number k, and does the first k steps. It writes one byte for each step number: the step's
 -- value if it is among the first k, else 2. The session moves only when k is the whole list, and then exactly as a vector moves it."
 -- Assumes nothing.
-use mathlib.Core.Bool.{Bool, false, cond}
+use mathlib.Core.Bool.{Bool, cond}
 use mathlib.Core.List.{List}
 use Prim.Native.Nat.{ℕ}
 use lib.Dec.{eqb, leb}
@@ -11,17 +11,17 @@ use Rattle.lists.specs.Filled.{filled}
 use Rattle.word.specs.Word.{bit, val}
 use Rattle.rule.specs.Net.{Net}
 use Rattle.rule.specs.Steps.{stepList, stepAt}
-use Rattle.rule.specs.declared.Refusal.the-variants.{NotReady, TooManyAsked, NoRoom}
+use Rattle.rule.specs.declared.Refusal.the-variants.{TooManyAsked, NoRoom}
 use Rattle.rule.specs.declared.Refusal.{Refusal}
 use Rattle.rule.specs.declared.Answer.the-variants.{Done, Refused}
-use Rattle.wiring.specs.declared.Verdict.{Verdict}
-use Rattle.wiring.specs.declared.Verdict.the-variants.{Refused as Faulty, Passed}
-use Rattle.inputs.specs.Inputs.{given, vectorFits}
+use Rattle.card_wiring.specs.declared.Verdict.{Verdict}
+use Rattle.card_wiring.specs.declared.Verdict.the-variants.{Refused as Faulty, Passed}
+use Rattle.inputs.specs.Inputs.{given, vectorJudged}
 use Rattle.card.specs.declared.Session.{Session}
 use Rattle.card.specs.Session.{cardOf}
 use Rattle.session.specs.declared.Moved.{Moved}
-use Rattle.orders.specs.Orders.{stepsOf, orderJudged}
-use Rattle.steps.specs.Vector.{ranAlong, ranSession}
+use Rattle.step_orders.specs.Orders.{stepsOf, orderJudged}
+use Rattle.step_run.specs.Vector.{ranAlong, ranSession}
 
 pub record Benched : Type 0 where
   pub moved : Moved
@@ -36,10 +36,6 @@ abbrev pub byteAt : List Net → List ℕ → List ℕ → ℕ → ℕ
 byteAt c words done e =
     let k = stepAt (stepList c) e in
     cond (some (λ x. eqb x e) done) (val (bit (getD words (k .net) 0) (k .time))) notDone
-
--- the same, as arrays of the variables, of the steps' nets and times, and of marks have it
-abbrev pub byteIn : List ℕ → List ℕ → List ℕ → List Bool → ℕ → ℕ
-byteIn vars nets times done e = cond (getD done e false) (val (bit (getD vars (getD nets e 0) 0) (getD times e 0))) notDone
 
 abbrev pub benchRefused : Session → List ℕ → Refusal → Benched
 benchRefused s room why = record { moved = record { answer = Refused why; session = s }; room = room }
@@ -67,4 +63,4 @@ benchVector s v order k room Passed = benchOrder s (given (s .kinds) v) order k 
 
 -- "Bench run: 12, 10, 11, 15, 16, 17, 19, 18."
 unfoldable pub benchOf : Session → List ℕ → List ℕ → ℕ → List ℕ → Benched
-benchOf s v order k room = cond (s .rested) (benchVector s v order k room (vectorFits (s .inputs) v)) (benchRefused s room NotReady)
+benchOf s v order k room = benchVector s v order k room (vectorJudged (s .rested) (s .inputs) v)

@@ -1,3 +1,3 @@
-pub mod Taken
 pub mod Bench
 pub mod Allowed
+pub mod Inner

@@ -8,16 +8,17 @@ ghost use Rattle.lists.specs.Entries.{some};
 ghost use Rattle.lists.specs.Listed.{listed};
 ghost use Rattle.lists.specs.Filled.{filled};
 ghost use Rattle.word.specs.Word.{bit, val};
+ghost use Rattle.inputs.specs.Inputs.{given};
 ghost use Rattle.card.specs.Session.{cardOf};
 ghost use Rattle.session.specs.Good.{Good};
-ghost use Rattle.orders.specs.Orders.{orderJudged};
-ghost use Rattle.bench.specs.Taken.{Taken};
-ghost use Rattle.bench.specs.Bench.{notDone, byteIn, benchDone, benchOrder, benchOf};
+ghost use Rattle.step_orders.specs.Orders.{orderJudged};
+ghost use Rattle.bench.specs.Inner.Taken.{Taken, byteIn};
+ghost use Rattle.bench.specs.Bench.{notDone, benchDone, benchOrder, benchOf};
 use card::Session;
+use card_wiring::Verdict;
 use rule::Answer;
 use rule::Refusal;
 use session::Moved;
-use wiring::Verdict;
 use word::PcSet;
 
 // Which step numbers are among the first k entries of an order.
@@ -28,7 +29,7 @@ fn among(order: &[u16], k: usize) -> [bool; 4096]
     let mut out = [false; 4096];
     let mut i: usize = 0;
     while i < k {
-        out[wiring::wide16(order[i])] = true;
+        out[card_wiring::wide16(order[i])] = true;
         i += 1;
     }
     out
@@ -58,12 +59,13 @@ fn put_bytes<'a>(
     room: &mut [u8],
 )
     requires { ⌜ (total ≤ 4096) × (total ≤ length (now room)) × ((e : ℕ) → e < total → getD (now nets) e 0 < 256) ⌝ }
-    ensures { λ r. ⌜ now (room .exit) ≡ filled (byteIn (now (vars .entry)) (now (nets .entry)) (now (times .entry)) (now (done .entry))) total (now (room .entry)) ⌝ }
+    ensures { λ r. ⌜ now (room .exit)
+        ≡ filled (byteIn (now (vars .entry)) (now (nets .entry)) (now (times .entry)) (now (done .entry))) total (now (room .entry)) ⌝ }
 {
     let mut e: usize = 0;
     while e < total {
-        let g = wiring::wide16(nets[e]);
-        room[e] = step_byte(done[e], vars[g], variables::narrow(times[e]));
+        let g = card_wiring::wide16(nets[e]);
+        room[e] = step_byte(done[e], vars[g], step_vars::narrow(times[e]));
         e += 1;
     }
 }
@@ -72,7 +74,7 @@ fn put_bytes<'a>(
 // only when they are the whole list.
 fn do_first<'a>(
     s: Session,
-    values: &'a [bool; 256],
+    v: &[u8],
     nets: &'a [u16; 4096],
     times: &'a [u8; 4096],
     total: usize,
@@ -81,14 +83,15 @@ fn do_first<'a>(
     room: &mut [u8],
 ) -> Moved
     requires { ⌜ Good s ⌝ }
-    requires { ⌜ s .rested ≡ true ⌝ }
+    requires { ⌜ (s .rested ≡ true) × (length (now v) ≡ s .inputs) ⌝ }
     requires { ⌜ Taken (cardOf s) (now nets) (now times) total (now order) ⌝ }
     requires { ⌜ (first ≤ total) × (total ≤ length (now room)) ⌝ }
-    ensures { λ r. ⌜ record { moved = r; room = now (room .exit) } ≡ benchDone s (λ (n : ℕ). getD (now (values .entry)) n false) (now (order .entry)) first (now (room .entry)) ⌝ }
+    ensures { λ r. ⌜ record { moved = r; room = now (room .exit) }
+        ≡ benchDone s (given (s .kinds) (now (v .entry))) (now (order .entry)) first (now (room .entry)) ⌝ }
 {
     let before = fields::tops(&s.words);
-    let mut vars = fields::start(&s.kinds, values, &before);
-    let count = steps::run_order(
+    let mut vars = step_vars::start(&before, &s.feeds, v);
+    let count = step_run::run_order(
         &mut vars,
         &s.types,
         &s.counts,
@@ -108,7 +111,7 @@ fn do_first<'a>(
             session: s,
         };
     }
-    let words = variables::histories_from(&vars, &s.sets);
+    let words = step_vars::histories_from(&vars, &s.sets);
     let next = session::with_words(s, s.rested, before, words);
     Moved {
         answer: Answer::Done(count),
@@ -116,22 +119,17 @@ fn do_first<'a>(
     }
 }
 
-// A bench run from the inputs' values: 15, 16, 17, 19, 18; else the first k entries of the order are done.
-fn run_bench<'a>(
-    s: Session,
-    values: &'a [bool; 256],
-    order: &'a [u16],
-    k: u64,
-    room: &mut [u8],
-) -> Moved
+// A bench run with a vector that fits: 15, 16, 17, 19, 18; else the first k entries of the order are done.
+fn run_bench<'a>(s: Session, v: &[u8], order: &'a [u16], k: u64, room: &mut [u8]) -> Moved
     requires { ⌜ Good s ⌝ }
-    requires { ⌜ s .rested ≡ true ⌝ }
-    ensures { λ r. ⌜ record { moved = r; room = now (room .exit) } ≡ benchOrder s (λ (n : ℕ). getD (now (values .entry)) n false) (now (order .entry)) k (now (room .entry)) (orderJudged (cardOf s) (now (order .entry))) ⌝ }
+    requires { ⌜ (s .rested ≡ true) × (length (now v) ≡ s .inputs) ⌝ }
+    ensures { λ r. ⌜ record { moved = r; room = now (room .exit) }
+        ≡ benchOrder s (given (s .kinds) (now (v .entry))) (now (order .entry)) k (now (room .entry)) (orderJudged (cardOf s) (now (order .entry))) ⌝ }
 {
     let mut nets = [0u16; 4096];
     let mut times = [0u8; 4096];
-    let total = listing::put_list(&mut nets, &mut times, &s.sets, &s.order, s.gates);
-    let verdict = orders::judge_order(
+    let total = step_list::put_list(&mut nets, &mut times, &s.sets, &s.order, s.gates);
+    let verdict = step_orders::judge_order(
         &s.counts,
         &s.places,
         &s.sets,
@@ -150,7 +148,7 @@ fn run_bench<'a>(
             if room.len() < total {
                 return session::refused(s, Refusal::NoRoom);
             }
-            do_first(s, values, &nets, &times, total, order, k as usize, room)
+            do_first(s, v, &nets, &times, total, order, k as usize, room)
         }
     }
 }
@@ -160,13 +158,9 @@ pub fn bench(s: Session, v: &[u8], order: &[u16], k: u64, room: &mut [u8]) -> Mo
     requires { ⌜ Good s ⌝ }
     ensures { λ r. ⌜ record { moved = r; room = now (room .exit) } ≡ benchOf s (now (v .entry)) (now (order .entry)) k (now (room .entry)) ⌝ }
 {
-    if !s.rested {
-        return session::refused(s, Refusal::NotReady);
-    }
-    let read = inputs::read_inputs(&s.kinds, s.inputs, v);
-    let verdict = read.verdict;
+    let verdict = inputs::judge(s.rested, s.inputs, v);
     match verdict {
         Verdict::Refused(why) => session::refused(s, why),
-        Verdict::Passed => run_bench(s, &read.values, order, k, room),
+        Verdict::Passed => run_bench(s, v, order, k, room),
     }
 }

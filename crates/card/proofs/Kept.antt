@@ -22,13 +22,14 @@ use Rattle.rule.specs.declared.Refusal.the-variants.{NotReady, NoSuchNet}
 use Rattle.rule.specs.declared.NetAnswer.the-variants.{Net, Refused}
 use Rattle.rule.proofs.Depths.{level-depth}
 use Rattle.rule.proofs.GateOrders.{out-order, order-once}
-use Rattle.wiring.specs.Layout.{kindsOf, typesOf, countsOf, placesOf, pinsAt}
-use Rattle.wiring.specs.Wires.{Wires, Fitting, backs, highest, padded, sizesOf}
-use Rattle.wiring.specs.Wired.{setWords}
-use Rattle.wiring.proofs.Layouts.{pins-laid, levels-laid, depth-laid, wires-laid, card-laid}
-use Rattle.wiring.proofs.Orders.{padded-all, padded-back}
-use Rattle.wiring.proofs.CardSets.{sizes-laid}
-use Rattle.records.proofs.Fitted.{Fitted, fitted}
+use Rattle.card_wiring.specs.Layout.{kindsOf, typesOf, countsOf, placesOf, pinsAt, padded}
+use Rattle.card_wiring.specs.Inner.Wires.{delayAt, Wires, Fitting, backs, highest, sizesOf}
+use Rattle.card_wiring.specs.Wired.{setWords}
+use Rattle.card_wiring.proofs.Layouts.{pins-laid, levels-laid, depth-laid, wires-laid, card-laid}
+use Rattle.card_wiring.proofs.Orders.{padded-all, padded-back}
+use Rattle.card_wiring.proofs.CardSets.{sizes-laid}
+use Rattle.inputs.specs.Inputs.{inputNets}
+use Rattle.card_records.proofs.Fitted.{Fitted, fitted}
 use Rattle.card.specs.declared.Session.{Session}
 use Rattle.card.specs.Session.{none, inputsOf, sessionOf, cardOf, resting}
 use Rattle.card.specs.Allowed.{Legible, Fed, Accepted}
@@ -102,6 +103,10 @@ module _ (s : Session) (h : HasCard s) where
   unfolding sessionOf
   order-is = ap (λ x. x .order) (h .laid)
 
+  pub feeds-are : s .feeds ≡ inputNets (s .kinds) 256
+  unfolding sessionOf
+  feeds-are = ap (λ x. x .feeds) (h .laid) ∙ ap (λ ks. inputNets ks 256) (sym kinds-are)
+
   pub sets-are : s .sets ≡ setWords c
   unfolding sessionOf
   sets-are = ap (λ x. x .sets) (h .laid)
@@ -157,13 +162,15 @@ module _ (s : Session) (h : HasCard s) where
       go (no l) = absurd (h .accepted .short (long-tells c (h .accepted .free) (card-fits .pinned) .yes-is (lt-ltb 4096 (length (stepList c)) (omega arith))))
 
   -- the levels worked out from its wiring are the card's, and so is the depth
-  levels-are : backs (s .counts) (s .places) (s .nets + 1) ≡ listed (level c) 256
-  levels-are = ap₂ (λ x y. backs x y (s .nets + 1)) counts-are places-are ∙ ap (λ k. backs (countsOf c) (placesOf c) (k + 1)) nets-are ∙ levels-laid c (card-fits .fits)
+  levels-are : backs delayAt (s .counts) (s .places) (s .nets + 1) ≡ listed (level c) 256
+  levels-are =
+      ap₂ (λ x y. backs delayAt x y (s .nets + 1)) counts-are places-are
+      ∙ ap (λ k. backs delayAt (countsOf c) (placesOf c) (k + 1)) nets-are ∙ levels-laid c (card-fits .fits)
 
-  pub card-levels : (n : ℕ) → n < s .nets → getD (backs (s .counts) (s .places) (s .nets + 1)) n 0 ≡ level c n
+  pub card-levels : (n : ℕ) → n < s .nets → getD (backs delayAt (s .counts) (s .places) (s .nets + 1)) n 0 ≡ level c n
   card-levels n l = ap (λ xs. getD xs n 0) levels-are ∙ listed-at (level c) 256 n 0 (omega (arith, few))
 
-  pub depth-is : highest (backs (s .counts) (s .places) (s .nets + 1)) (s .nets) ≡ depth c
+  pub depth-is : highest (backs delayAt (s .counts) (s .places) (s .nets + 1)) (s .nets) ≡ depth c
   depth-is = ap₂ highest levels-are nets-are ∙ depth-laid c (card-fits .fits)
 
   -- the words are its PC-sets, and their sizes added are the number of its steps
@@ -191,8 +198,8 @@ pub asked-past : (s : Session) (n : ℕ) → s .loaded ≡ true → s .nets ≤ 
 unfolding netAsked
 asked-past s n e l = rw (e, le-ltb n (s .nets) l)
 
-pub asked-here : (s : Session) → HasCard s → (n l w : ℕ) → s .loaded ≡ true → n < s .nets → l ≡ getD (backs (s .counts) (s .places) (s .nets + 1)) n 0 → w ≡ getD (s .sets) n 0
-    → Net l w ≡ netAsked s n
+pub asked-here : (s : Session) → HasCard s → (n l w : ℕ) → s .loaded ≡ true → n < s .nets
+    → l ≡ getD (backs delayAt (s .counts) (s .places) (s .nets + 1)) n 0 → w ≡ getD (s .sets) n 0 → Net l w ≡ netAsked s n
 unfolding netAsked
 asked-here s h n l w e b el ew =
     let few = card-fits s h .fits .few in

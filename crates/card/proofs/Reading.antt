@@ -1,40 +1,43 @@
 -- A card that was read, laid out in arrays: what load's steps make of it. Assumes nothing.
-use mathlib.Core.Path.{_≡_, refl, sym, ap, _∙_, subst}
+use mathlib.Core.Path.{_≡_, refl, sym, ap, ap₂, _∙_, subst}
 use mathlib.Core.Bool.{Bool, true, false, cond}
 use mathlib.Core.List.{List}
-use Prim.Native.Nat.{ℕ, _+_, _-_, _≤_, _<_}
+use Prim.Native.Nat.{ℕ, _+_, _-_, _<_}
 use native.Mathlib.Decide.{decLt}
 use native.Mathlib.Omega.{arith}
 use lib.Dec.{eqb, ltb}
-use lib.ListN.{length, getD, List·getD-eq-default}
+use lib.ListN.{length, getD}
 use borrow.Author.Tests.{eq-eqb, ne-eqb}
 use Rattle.word.specs.Times.{count}
 use Rattle.word.proofs.Sets.{count-cong}
-use Rattle.rule.specs.Net.{Net, input, constant, gate, openValue, netAt, Pinned}
+use Rattle.rule.specs.Net.{Net, netAt, isInput, Pinned}
 use Rattle.rule.specs.Level.{depth}
 use Rattle.rule.specs.Steps.{gateOrder, stepList}
 use Rattle.rule.specs.declared.Refusal.{Refusal}
 use Rattle.rule.specs.declared.Refusal.the-variants.{NoInput, NoSuchPin, Looped, TooDeep, TooManySteps}
 use Rattle.rule.specs.declared.Answer.the-variants.{Done}
-use Rattle.rule.proofs.Nets.{at-pin-all}
-use Rattle.wiring.specs.declared.Verdict.{Verdict}
-use Rattle.wiring.specs.declared.Verdict.the-variants.{Refused as Faulty, Passed}
-use Rattle.wiring.specs.declared.Wired.{Wired}
-use Rattle.wiring.specs.Layout.{Fits, kindOf, kindsOf, typesOf, countsOf, placesOf}
-use Rattle.wiring.specs.Wires.{Wires}
-use Rattle.wiring.specs.Wired.{pinsFit, mostBack, setWords, passed, refused as faulty, wiredOf, arraysWired}
-use Rattle.wiring.proofs.Judged.{judged as wired-judged}
-use Rattle.wiring.proofs.Layouts.{wires-laid, kind-at, kind-past}
-use Rattle.wiring.proofs.CardSets.{count-ends}
-use Rattle.records.specs.declared.Outcome.the-variants.{Refused, Read}
-use Rattle.records.specs.declared.Parsed.{Parsed}
-use Rattle.records.specs.Written.{Bytes}
-use Rattle.records.specs.Scan.{Meaning, Stops, Means, meaning, parsedOf}
-use Rattle.records.proofs.Fitted.{read-fits}
+use Rattle.rule.proofs.Nets.{past-input}
+use Rattle.card_wiring.specs.declared.Verdict.{Verdict}
+use Rattle.card_wiring.specs.declared.Verdict.the-variants.{Refused as Faulty, Passed}
+use Rattle.card_wiring.specs.declared.Wired.{Wired}
+use Rattle.card_wiring.specs.Layout.{kindsOf, typesOf, countsOf, placesOf}
+use Rattle.card_wiring.specs.Inner.Wires.{Fits, Wires}
+use Rattle.card_wiring.specs.Wired.{pinsFit, mostBack, setWords, passedWiring, refusedWiring as faulty, wiredOf}
+use Rattle.card_wiring.specs.Inner.Wired.{arraysWired}
+use Rattle.card_wiring.proofs.Judged.{arrays-judged as wired-judged}
+use Rattle.card_wiring.proofs.Layouts.{kind-input, wires-laid, kind-at, kind-past}
+use Rattle.card_wiring.proofs.CardSets.{count-ends}
+use Rattle.inputs.specs.Inputs.{inputNets}
+use Rattle.card_records.specs.declared.Outcome.the-variants.{Refused, Read}
+use Rattle.card_records.specs.declared.Parsed.{Parsed}
+use Rattle.card_records.specs.Written.{Bytes}
+use Rattle.card_records.specs.Scan.{Meaning, Stops, Means, meaning}
+use Rattle.card_records.specs.Inner.Reading.{parsedOf}
+use Rattle.card_records.proofs.Fitted.{read-fits}
 use Rattle.card.specs.declared.Session.{Session}
-use Rattle.card.specs.Session.{isInput, inputsOf, sessionOf}
+use Rattle.card.specs.Session.{inputsOf, sessionOf}
 use Rattle.card.specs.Load.{refusal, concluded, judged, loadMeant, loadOf}
-use Rattle.card.specs.Arrays.{arraysSession, arraysConcluded, arraysJudged}
+use Rattle.card.specs.Inner.Arrays.{arraysSession, arraysConcluded, arraysJudged}
 
 -- What reading came to
 
@@ -53,21 +56,11 @@ read-card (Means c) n e = let h : length c ≡ n = cc in record { nets = c; mean
 
 -- The inputs of the arrays are the card's
 
-input-kind : (w : Net) → eqb (kindOf w) 1 ≡ isInput w
-input-kind input = refl
-input-kind (constant k) = refl
-input-kind (gate ty ps) = refl
-
-past-input : (c : List Net) (n : ℕ) → length c ≤ n → isInput (netAt c n) ≡ false
-unfolding netAt
-past-input c n l =
-    at-pin-all (λ p w. isInput w ≡ false) (constant openValue) (λ m. getD c m (constant false)) n refl (ap isInput (List·getD-eq-default c (constant false) l))
-
 pub inputs-laid : (c : List Net) → Fits c → (n : ℕ) → eqb (getD (kindsOf c) n 0) 1 ≡ isInput (netAt c n)
 inputs-laid c fit n = go (decLt n (length c))
   where
     go : Dec (n < length c) → eqb (getD (kindsOf c) n 0) 1 ≡ isInput (netAt c n)
-    go (yes l) = ap (λ k. eqb k 1) (kind-at c fit n l) ∙ input-kind (netAt c n)
+    go (yes l) = ap (λ k. eqb k 1) (kind-at c fit n l) ∙ kind-input (netAt c n)
     go (no l) = ap (λ k. eqb k 1) (kind-past c fit n (omega arith)) ∙ sym (past-input c n (omega arith))
 
 pub inputs-counted : (c : List Net) → Fits c → count (λ g. eqb (getD (kindsOf c) g 0) 1) (length c) ≡ inputsOf c
@@ -86,12 +79,12 @@ inputs-all-counted c fit =
 
 -- a wiring that passes has the order and the sets
 pub wired-passed : (c : List Net) → wiredOf c .verdict ≡ Passed
-    → wiredOf c ≡ passed (gateOrder c) (setWords c)
+    → wiredOf c ≡ passedWiring (gateOrder c) (setWords c)
 unfolding wiredOf
 wired-passed c = go (pinsFit c) (ltb (length c) (mostBack c)) (ltb 63 (depth c)) (ltb 4096 (length (stepList c)))
   where
     good : Wired
-    good = passed (gateOrder c) (setWords c)
+    good = passedWiring (gateOrder c) (setWords c)
 
     bad : Refusal → Wired
     bad = faulty
@@ -125,17 +118,19 @@ pub record Laid (c : List Net) (n : ℕ) (kinds types counts places : List ℕ) 
 
 module _ (old : Session) (n : ℕ) (kinds types counts places : List ℕ) where
   module _ (handed inputs : ℕ) (w : Wired) (wired : w ≡ arraysWired counts places n) where
-    abbrev fresh : Wired → Session
+    abbrev fresh : List ℕ → Wired → Session
     fresh = arraysSession n inputs kinds types counts places
 
     pub conclude-faulty : (r : Refusal) → w .verdict ≡ Faulty r → refusal old r ≡ arraysConcluded old handed inputs n kinds types counts places
     unfolding arraysConcluded
-    conclude-faulty r e = ap (concluded old (fresh (arraysWired counts places n)) handed) (sym e ∙ ap (λ x. x .verdict) wired)
+    conclude-faulty r e = ap (concluded old (fresh (inputNets kinds 256) (arraysWired counts places n)) handed) (sym e ∙ ap (λ x. x .verdict) wired)
 
-    pub conclude-passed : w .verdict ≡ Passed → record { answer = Done handed; session = fresh w } ≡ arraysConcluded old handed inputs n kinds types counts places
+    pub conclude-passed : w .verdict ≡ Passed → (feeds : List ℕ) → feeds ≡ inputNets kinds 256
+        → record { answer = Done handed; session = fresh feeds w } ≡ arraysConcluded old handed inputs n kinds types counts places
     unfolding arraysConcluded
-    conclude-passed e =
-        ap (λ x. concluded old (fresh x) handed Passed) wired ∙ ap (concluded old (fresh (arraysWired counts places n)) handed) (sym e ∙ ap (λ x. x .verdict) wired)
+    conclude-passed e feeds fed =
+        ap₂ (λ f x. concluded old (fresh f x) handed Passed) fed wired
+        ∙ ap (concluded old (fresh (inputNets kinds 256) (arraysWired counts places n)) handed) (sym e ∙ ap (λ x. x .verdict) wired)
 
   module _ (inputs : ℕ) (counted : inputs ≡ count (λ g. eqb (getD kinds g 0) 1) n) where
     pub judge-none : inputs ≡ 0 → refusal old NoInput ≡ arraysJudged old n kinds types counts places
@@ -150,12 +145,12 @@ module _ (old : Session) (n : ℕ) (kinds types counts places : List ℕ) where
 -- where a card is laid out in them it is the judgement of the card
 
 module _ (old : Session) (c : List Net) where
-  fresh-card : wiredOf c .verdict ≡ Passed → arraysSession (length c) (inputsOf c) (kindsOf c) (typesOf c) (countsOf c) (placesOf c) (wiredOf c) ≡ sessionOf c
+  fresh-card : wiredOf c .verdict ≡ Passed → arraysSession (length c) (inputsOf c) (kindsOf c) (typesOf c) (countsOf c) (placesOf c) (inputNets (kindsOf c) 256) (wiredOf c) ≡ sessionOf c
   unfolding sessionOf
-  fresh-card e = ap (arraysSession (length c) (inputsOf c) (kindsOf c) (typesOf c) (countsOf c) (placesOf c)) (wired-passed c e)
+  fresh-card e = ap (arraysSession (length c) (inputsOf c) (kindsOf c) (typesOf c) (countsOf c) (placesOf c) (inputNets (kindsOf c) 256)) (wired-passed c e)
 
   concluded-card : (handed : ℕ) (v : Verdict) → wiredOf c .verdict ≡ v
-      → concluded old (arraysSession (length c) (inputsOf c) (kindsOf c) (typesOf c) (countsOf c) (placesOf c) (wiredOf c)) handed v ≡ concluded old (sessionOf c) handed v
+      → concluded old (arraysSession (length c) (inputsOf c) (kindsOf c) (typesOf c) (countsOf c) (placesOf c) (inputNets (kindsOf c) 256) (wiredOf c)) handed v ≡ concluded old (sessionOf c) handed v
   concluded-card handed (Faulty r) e = refl
   concluded-card handed Passed e = ap (λ x. concluded old x handed Passed) (fresh-card e)
 

@@ -1,6 +1,6 @@
 -- Each test that load makes of a card says what document 01 says: an input, pins that name nets, loops, levels, steps. Assumes nothing.
 use mathlib.Core.Path.{_≡_, refl, ap}
-use mathlib.Core.Bool.{Bool, true, false, false≢true}
+use mathlib.Core.Bool.{Bool, true, false}
 use mathlib.Core.List.{List, [], _∷_, map}
 use mathlib.Core.Logic.{_⊎_, inl, inr}
 use Prim.Native.Nat.{ℕ, _<_}
@@ -13,15 +13,16 @@ use Rattle.lists.proofs.Bools.{not-both}
 use Rattle.lists.proofs.Number.{number-unique}
 use Rattle.word.specs.Times.{count}
 use Rattle.word.proofs.Sets.{count-none, count-some}
-use Rattle.rule.specs.Net.{Net, input, constant, gate, netAt, Named, Pinned}
+use Rattle.rule.specs.Net.{Net, netAt, isInput, Named, Pinned}
 use Rattle.rule.specs.Level.{most, level, depth, Looped}
 use Rattle.rule.specs.Steps.{Joined, stepList}
+use Rattle.rule.proofs.Nets.{is-input}
 use Rattle.rule.proofs.Levels.{most-at}
 use Rattle.rule.proofs.Depths.{level-depth}
 use Rattle.rule.proofs.StepLists.{list-number}
-use Rattle.wiring.specs.Wired.{pinsFit, mostBack}
-use Rattle.wiring.proofs.Judgements.{pins-named, named-fit, some-net-loops, no-loop}
-use Rattle.card.specs.Session.{isInput, inputsOf}
+use Rattle.card_wiring.specs.Wired.{pinsFit, mostBack}
+use Rattle.card_wiring.proofs.Judgements.{pins-named, named-fit, some-net-loops, back-no-loop}
+use Rattle.card.specs.Session.{inputsOf}
 use Rattle.card.specs.Allowed.{Fed, Deep, Long}
 
 -- a test tells whether P holds
@@ -39,11 +40,6 @@ tells-false true P t n = absurd (n (t .yes-is refl))
 tells-false false P t n = refl
 
 -- "at least one of them an input"
-
-is-input : (w : Net) → isInput w ≡ true → w ≡ input
-is-input input e = refl
-is-input (constant k) e = absurd (false≢true e)
-is-input (gate ty ps) e = absurd (false≢true e)
 
 pub fed-tells : (c : List Net) → Tells (eqb (inputsOf c) 0) (¬ Fed c)
 unfolding inputsOf
@@ -77,7 +73,7 @@ named-tells c = record { yes-is = pins-named c; no-is = λ e h. not-both (pinsFi
 -- "a gate reaches itself through pins"
 
 pub loop-tells : (c : List Net) → Tells (ltb (length c) (mostBack c)) (Looped c)
-loop-tells c = record { yes-is = λ e. some-net-loops c (ltb-true (length c) (mostBack c) e); no-is = λ e. no-loop c (ltb-false (length c) (mostBack c) e) }
+loop-tells c = record { yes-is = λ e. some-net-loops c (ltb-true (length c) (mostBack c) e); no-is = λ e. back-no-loop c (ltb-false (length c) (mostBack c) e) }
 
 -- "a level over 63"
 

@@ -13,18 +13,18 @@ use Rattle.rule.specs.Steps.{gateOrder, stepList}
 use Rattle.rule.specs.declared.Refusal.{Refusal}
 use Rattle.rule.specs.declared.Refusal.the-variants.{NoInput, NoSuchPin, Looped as LoopedCard, TooDeep, TooManySteps}
 use Rattle.rule.specs.declared.Answer.the-variants.{Done, Refused}
-use Rattle.wiring.specs.declared.Verdict.the-variants.{Passed}
-use Rattle.wiring.specs.declared.Wired.{Wired}
-use Rattle.wiring.specs.Wired.{pinsFit, mostBack, setWords, passed, refused as faulty, wiredOf}
-use Rattle.records.specs.Scan.{Meaning, Stops, Means, meaning}
-use Rattle.records.specs.Written.{Bytes}
-use Rattle.records.proofs.Cards.{read-back, written, why, stops}
-use Rattle.records.proofs.Fitted.{read-fits}
+use Rattle.card_wiring.specs.declared.Verdict.the-variants.{Passed}
+use Rattle.card_wiring.specs.declared.Wired.{Wired}
+use Rattle.card_wiring.specs.Wired.{pinsFit, mostBack, setWords, passedWiring, refusedWiring as faulty, wiredOf}
+use Rattle.card_records.specs.Scan.{Meaning, Stops, Means, meaning}
+use Rattle.card_records.specs.Written.{Bytes}
+use Rattle.card_records.proofs.Cards.{read-back, written, why, stops}
+use Rattle.card_records.proofs.Fitted.{read-fits}
 use Rattle.card.specs.declared.Session.{Session}
 use Rattle.card.specs.declared.Loaded.{Loaded}
 use Rattle.card.specs.Session.{inputsOf, sessionOf}
 use Rattle.card.specs.Load.{refusal, taken, concluded, judged, loadMeant, loadOf}
-use Rattle.card.specs.Allowed.{Fed, Deep, Long, Accepted, Allowed, Writes, Gets, gets-stopped, gets-9, gets-4, gets-5, gets-6, gets-7}
+use Rattle.card.specs.Allowed.{Fed, Deep, Long, Accepted, Allowed, Writes, LoadGets, gets-stopped, gets-9, gets-4, gets-5, gets-6, gets-7}
 use Rattle.card.specs.Held.{HasCard, Carded}
 use Rattle.card.proofs.Kept.{session-holds, taken-carded}
 use Rattle.card.proofs.Tests.{Tells, tells-true, tells-false, fed-tells, fed-or-not, named-tells, loop-tells, deep-tells, long-tells}
@@ -42,7 +42,7 @@ module _ (old : Session) (c : List Net) where
   unfolding judged wiredOf
   judged-tests =
       ap (cond (eqb (inputsOf c) 0) (refusal old NoInput))
-      (go (passed (gateOrder c) (setWords c)) refl (pinsFit c) (ltb (length c) (mostBack c)) (ltb 63 (depth c)) (ltb 4096 (length (stepList c))))
+      (go (passedWiring (gateOrder c) (setWords c)) refl (pinsFit c) (ltb (length c) (mostBack c)) (ltb 63 (depth c)) (ltb 4096 (length (stepList c))))
     where
       go : (w : Wired) → w .verdict ≡ Passed → (a b d e : Bool)
           → concluded old (sessionOf c) (length c) ((cond a (cond b (faulty LoopedCard) (cond d (faulty TooDeep) (cond e (faulty TooManySteps) w))) (faulty NoSuchPin)) .verdict)
@@ -101,7 +101,7 @@ module _ (old : Session) (c : List Net) where
 -- What load gives, with its reason
 
 pub data Ruling (old : Session) (s : List ℕ) : Loaded → Type 0 where
-  refuses : (r : Refusal) → Gets s r → Ruling old s (refusal old r)
+  refuses : (r : Refusal) → LoadGets s r → Ruling old s (refusal old r)
   takes : (a : Allowed s) → Ruling old s (taken (a .card))
 
 module _ (old : Session) (s : List ℕ) (c : List Net) (w : Writes s c) (pinned : Pinned c) where
@@ -155,7 +155,7 @@ module _ (old : Session) (s : List ℕ) (bytes : Bytes s) where
   load-means c w = ap (loadMeant old) (means c w)
 
   -- each number exactly when document 01 gives it
-  pub load-refuses : (r : Refusal) → Gets s r → loadOf old s ≡ refusal old r
+  pub load-refuses : (r : Refusal) → LoadGets s r → loadOf old s ≡ refusal old r
   unfolding loadOf
   load-refuses r (gets-stopped g) = ap (loadMeant old) (stops s r g)
   load-refuses r (gets-9 c w n) = load-means c w ∙ judged-9 old c (pinned-by c w) n
@@ -164,11 +164,11 @@ module _ (old : Session) (s : List ℕ) (bytes : Bytes s) where
   load-refuses r (gets-6 c w f n l d) = load-means c w ∙ judged-6 old c (pinned-by c w) f n l d
   load-refuses r (gets-7 c w f n l d k) = load-means c w ∙ judged-7 old c (pinned-by c w) f n l d k
 
-  pub load-refused : (r : Refusal) → loadOf old s .answer ≡ Refused r → Gets s r
+  pub load-refused : (r : Refusal) → loadOf old s .answer ≡ Refused r → LoadGets s r
   load-refused r e = go (loadOf old s) ruled e
     where
-      go : (x : Loaded) → Ruling old s x → x .answer ≡ Refused r → Gets s r
-      go x (refuses q g) e = let h : q ≡ r = cc in subst (Gets s) h g
+      go : (x : Loaded) → Ruling old s x → x .answer ≡ Refused r → LoadGets s r
+      go x (refuses q g) e = let h : q ≡ r = cc in subst (LoadGets s) h g
       go x (takes a) e = let z : _≡_ {A = ℕ} 0 1 = cc in absurd (omega arith)
 
   -- and a card is taken exactly when document 01 allows it

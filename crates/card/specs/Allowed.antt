@@ -9,8 +9,8 @@ use Rattle.rule.specs.Level.{level, Looped}
 use Rattle.rule.specs.Steps.{Joined}
 use Rattle.rule.specs.declared.Refusal.{Refusal}
 use Rattle.rule.specs.declared.Refusal.the-variants.{NoInput, NoSuchPin, Looped as LoopedCard, TooDeep, TooManySteps}
-use Rattle.records.specs.Written.{cardBytes, AllLegal}
-use Rattle.records.specs.Stopped.{Stopped}
+use Rattle.card_records.specs.Written.{cardBytes, AllLegal}
+use Rattle.card_records.specs.Stopped.{Stopped}
 
 -- "at least one of them an input"
 abbrev pub Fed : List Net → Type 0
@@ -51,10 +51,10 @@ pub record Writes (s : List ℕ) (c : List Net) : Type 0 where
   pub legible : Legible c
 
 -- when each number is given, in document 01's order: while reading 1, 2, 3, 8; then 9, 4, 5, 6, 7
-pub data Gets (s : List ℕ) : Refusal → Type 0 where
-  gets-stopped : {why : Refusal} → Stopped s why → Gets s why
-  gets-9 : (c : List Net) → Writes s c → ¬ Fed c → Gets s NoInput
-  gets-4 : (c : List Net) → Writes s c → Fed c → ¬ Named c → Gets s NoSuchPin
-  gets-5 : (c : List Net) → Writes s c → Fed c → Named c → Looped c → Gets s LoopedCard
-  gets-6 : (c : List Net) → Writes s c → Fed c → Named c → ¬ Looped c → Deep c → Gets s TooDeep
-  gets-7 : (c : List Net) → Writes s c → Fed c → Named c → ¬ Looped c → ¬ Deep c → Long c → Gets s TooManySteps
+pub data LoadGets (s : List ℕ) : Refusal → Type 0 where
+  gets-stopped : {why : Refusal} → Stopped s why → LoadGets s why
+  gets-9 : (c : List Net) → Writes s c → ¬ Fed c → LoadGets s NoInput
+  gets-4 : (c : List Net) → Writes s c → Fed c → ¬ Named c → LoadGets s NoSuchPin
+  gets-5 : (c : List Net) → Writes s c → Fed c → Named c → Looped c → LoadGets s LoopedCard
+  gets-6 : (c : List Net) → Writes s c → Fed c → Named c → ¬ Looped c → Deep c → LoadGets s TooDeep
+  gets-7 : (c : List Net) → Writes s c → Fed c → Named c → ¬ Looped c → ¬ Deep c → Long c → LoadGets s TooManySteps

@@ -1,6 +1,6 @@
 pub mod Session
 pub mod Load
-pub mod Arrays
 pub mod Allowed
 pub mod Held
 pub mod Asked
+pub mod Inner

@@ -8,10 +8,10 @@ use Rattle.rule.specs.Net.{Net}
 use Rattle.rule.specs.declared.Refusal.{Refusal}
 use Rattle.rule.specs.declared.Refusal.the-variants.{NoInput}
 use Rattle.rule.specs.declared.Answer.the-variants.{Done, Refused}
-use Rattle.wiring.specs.declared.Verdict.{Verdict}
-use Rattle.wiring.specs.declared.Verdict.the-variants.{Refused as Faulty, Passed}
-use Rattle.wiring.specs.Wired.{wiredOf}
-use Rattle.records.specs.Scan.{Meaning, Stops, Means, meaning}
+use Rattle.card_wiring.specs.declared.Verdict.{Verdict}
+use Rattle.card_wiring.specs.declared.Verdict.the-variants.{Refused as Faulty, Passed}
+use Rattle.card_wiring.specs.Wired.{wiredOf}
+use Rattle.card_records.specs.Scan.{Meaning, Stops, Means, meaning}
 use Rattle.card.specs.declared.Session.{Session}
 use Rattle.card.specs.declared.Loaded.{Loaded}
 use Rattle.card.specs.Session.{inputsOf, sessionOf}

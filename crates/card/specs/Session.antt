@@ -4,11 +4,11 @@ use mathlib.Core.List.{List}
 use Prim.Native.Nat.{ℕ}
 use lib.ListN.{length, getD, replicate}
 use Rattle.word.specs.Times.{count}
-use Rattle.rule.specs.Net.{Net, input, constant, gate, netAt}
+use Rattle.rule.specs.Net.{Net, netAt, isInput}
 use Rattle.rule.specs.Steps.{gateOrder}
-use Rattle.wiring.specs.Layout.{kindsOf, typesOf, countsOf, placesOf, cardIn}
-use Rattle.wiring.specs.Wires.{padded}
-use Rattle.wiring.specs.Wired.{setWords}
+use Rattle.card_wiring.specs.Layout.{kindsOf, typesOf, countsOf, placesOf, cardIn, padded}
+use Rattle.card_wiring.specs.Wired.{setWords}
+use Rattle.inputs.specs.Inputs.{inputNets}
 use Rattle.card.specs.declared.Session.{Session}
 
 -- "A session is one that these operations left, starting from an empty one."
@@ -24,15 +24,11 @@ none = record {
   counts = replicate 256 0;
   places = replicate 2048 0;
   order = replicate 256 0;
+  feeds = replicate 256 0;
   sets = replicate 256 0;
   before = replicate 256 false;
   words = replicate 256 0;
 }
-
-abbrev pub isInput : Net → Bool
-isInput input = true
-isInput (constant k) = false
-isInput (gate ty ps) = false
 
 -- how many inputs a card has
 unfoldable pub inputsOf : List Net → ℕ
@@ -51,6 +47,7 @@ sessionOf c = record {
   counts = countsOf c;
   places = placesOf c;
   order = padded (gateOrder c);
+  feeds = inputNets (kindsOf c) 256;
   sets = setWords c;
   before = replicate 256 false;
   words = replicate 256 0;
@@ -80,6 +77,7 @@ resting s rested before words = record {
   counts = s .counts;
   places = s .places;
   order = s .order;
+  feeds = s .feeds;
   sets = s .sets;
   before = before;
   words = words;

@@ -5,17 +5,17 @@ ghost use lib.Dec.{eqb};
 ghost use lib.ListN.{getD};
 ghost use Rattle.word.specs.Word.{val};
 ghost use Rattle.word.specs.Times.{count};
-ghost use Rattle.wiring.specs.Wires.{Wires};
+ghost use Rattle.card_wiring.specs.Inner.Wires.{Wires};
 ghost use Rattle.card.specs.Session.{none};
 ghost use Rattle.card.specs.Load.{refusal, loadOf};
-ghost use Rattle.card.specs.Arrays.{arraysConcluded, arraysJudged};
+ghost use Rattle.card.specs.Inner.Arrays.{arraysConcluded, arraysJudged};
 ghost use Rattle.card.specs.Held.{Carded};
 ghost use Rattle.card.specs.Asked.{netAsked, depthAsked, stepsAsked};
-use records::Outcome;
+use card_records::Outcome;
+use card_wiring::Verdict;
 use rule::Answer;
 use rule::NetAnswer;
 use rule::Refusal;
-use wiring::Verdict;
 
 // A card, laid out in arrays, its rest and the histories of the last vector. The operations take it by value and hand it back.
 pub struct Session {
@@ -33,6 +33,8 @@ pub struct Session {
     pub places: [u16; 2048],
     // The gates by level, then net.
     pub order: [u16; 256],
+    // The nets that are inputs, in their order.
+    pub feeds: [u16; 256],
     // The PC-sets.
     pub sets: [u64; 256],
     // The values ahead of time 0, and the histories: bit t of a net's word is its value at time t.
@@ -55,6 +57,7 @@ pub fn empty() -> Session
         counts: [0; 256],
         places: [0; 2048],
         order: [0; 256],
+        feeds: [0; 256],
         sets: [0; 256],
         before: [false; 256],
         words: [0; 256],
@@ -110,13 +113,14 @@ fn conclude<'a>(
     requires { ⌜ Wires (now counts) (now places) n ⌝ }
     ensures { λ r. ⌜ r ≡ arraysConcluded old count inputs n (now (kinds .entry)) (now (types .entry)) (now (counts .entry)) (now (places .entry)) ⌝ }
 {
-    let w = wiring::wire(counts, places, n);
+    let w = card_wiring::wire(counts, places, n);
     let verdict = w.verdict;
     match verdict {
         Verdict::Refused(why) => refused(old, why),
         Verdict::Passed => {
             let order = w.order;
             let sets = w.sets;
+            let feeds = inputs::input_nets(kinds);
             Loaded {
                 answer: Answer::Done(count),
                 session: Session {
@@ -130,6 +134,7 @@ fn conclude<'a>(
                     counts: *counts,
                     places: *places,
                     order,
+                    feeds,
                     sets,
                     before: [false; 256],
                     words: [0; 256],
@@ -162,7 +167,7 @@ fn judge<'a>(
 pub fn load(old: Session, s: &[u8]) -> Loaded
     ensures { λ r. ⌜ r ≡ loadOf old (now (s .entry)) ⌝ }
 {
-    let p = records::parse(s);
+    let p = card_records::parse(s);
     let outcome = p.outcome;
     match outcome {
         Outcome::Refused(why) => refused(old, why),
@@ -183,7 +188,7 @@ pub fn ask_net(s: Session, n: u64) -> NetAnswer
         return NetAnswer::Refused(Refusal::NoSuchNet);
     }
     let at = n as usize;
-    let levels = wiring::gates_back(&s.counts, &s.places, nets);
+    let levels = card_wiring::gates_back(&s.counts, &s.places, nets);
     NetAnswer::Net(levels[at], s.sets[at])
 }
 
@@ -195,8 +200,8 @@ pub fn depth_of(s: Session) -> usize
     if !s.loaded {
         return 0;
     }
-    let levels = wiring::gates_back(&s.counts, &s.places, s.nets);
-    wiring::highest_of(&levels, s.nets) as usize
+    let levels = card_wiring::gates_back(&s.counts, &s.places, s.nets);
+    card_wiring::highest_of(&levels, s.nets) as usize
 }
 
 // The length of its step list; 0 where nothing is loaded.
@@ -207,5 +212,5 @@ pub fn steps_of(s: Session) -> usize
     if !s.loaded {
         return 0;
     }
-    wiring::steps_of(&s.sets, &s.order, s.gates)
+    card_wiring::sizes_of(&s.sets, &s.order, s.gates)
 }

@@ -17,14 +17,14 @@ use Rattle.rule.specs.declared.Refusal.{Refusal}
 use Rattle.rule.specs.declared.Refusal.the-variants.{OrderLength, OrderEntry, OrderEarly}
 use Rattle.rule.specs.declared.Answer.the-variants.{Done, Refused}
 use Rattle.rule.proofs.StepLists.{list-number}
-use Rattle.wiring.specs.declared.Verdict.{Verdict}
+use Rattle.card_wiring.specs.declared.Verdict.{Verdict}
 use Rattle.inputs.specs.Inputs.{given}
 use Rattle.inputs.specs.Allowed.{Vector, gets-12, gets-10, gets-11}
-use Rattle.records.specs.Written.{Bytes}
+use Rattle.card_records.specs.Written.{Bytes}
 use Rattle.card.specs.declared.Session.{Session}
 use Rattle.card.specs.Session.{none, inputsOf, sessionOf, cardOf}
 use Rattle.card.specs.Load.{refusal, loadOf, taken}
-use Rattle.card.specs.Allowed.{Allowed, Gets}
+use Rattle.card.specs.Allowed.{Allowed, LoadGets}
 use Rattle.card.specs.Held.{HasCard}
 use Rattle.card.proofs.Kept.{session-card, session-holds, loaded-is, nets-are, inputs-are, card-fits}
 use Rattle.card.proofs.Verdicts.{load-takes, load-taken, load-refuses, load-refused}
@@ -33,20 +33,21 @@ use Rattle.session.specs.Moves.{givenTo, ends, restOf, vectorOf}
 use Rattle.session.specs.Sequence.{after, stateAfter}
 use Rattle.session.proofs.Kept.{none-good, load-good, taken-good, rest-good}
 use Rattle.session.proofs.Held.{given-card}
-use Rattle.session.proofs.Refusals.{vector-fits, rest-takes, vector-takes}
+use Rattle.session.proofs.Refusals.{rest-takes, vector-takes}
 use Rattle.session.proofs.Rules.{rest-settles, rest-flat, vector-rule}
 use Rattle.session.proofs.Sequences.{Stands, rest-stands, after-stands, sequence-rule, sequence-stands}
 use Rattle.history.specs.Told.{Roomy, historyOf}
 use Rattle.history.proofs.Flags.{flag-cong, flat-flag}
 use Rattle.history.proofs.Histories.{history-0, history-count, history-shows}
-use Rattle.orders.specs.Orders.{stepsOf, orderJudged}
-use Rattle.orders.proofs.Judging.{Fit, good-fit, Judgement, judgement, gets-15 as judged-15, gets-16 as judged-16, gets-17 as judged-17, taken as judged-taken}
-use Rattle.steps.specs.Vector.{ranAlong, stepsVectorOf}
-use Rattle.steps.specs.AnyOrder.{AnyOrder}
-use Rattle.steps.proofs.Engines.{run-any-order, steps-number}
-use Rattle.moves.specs.declared.Engine.the-variants.{Fields, Steps}
-use Rattle.moves.specs.Operated.{vectorBy}
-use Rattle.moves.proofs.Engines.{same-session, by-good, by-takes}
+use Rattle.step_orders.specs.Orders.{stepsOf, orderJudged}
+use Rattle.step_orders.proofs.Judging.{Fit, good-fit, Judgement, judgement, gets-15 as judged-15, gets-16 as judged-16, gets-17 as judged-17, taken as judged-taken}
+use Rattle.step_run.specs.Vector.{ranAlong, stepsVectorOf}
+use Rattle.step_run.specs.AnyOrder.{AnyOrder}
+use Rattle.step_run.proofs.Vectors.{steps-takes}
+use Rattle.step_run.proofs.Engines.{run-any-order, steps-number}
+use Rattle.operations.specs.declared.Engine.the-variants.{Fields, Steps}
+use Rattle.operations.specs.Operated.{vectorBy}
+use Rattle.operations.proofs.Engines.{same-session, by-good, by-takes}
 use Rattle.bench.specs.Bench.{Benched, notDone, benchOf}
 use Rattle.bench.specs.Allowed.{stepCount, Doing, BenchGets, gets-vector, gets-15, gets-16, gets-17, gets-19, gets-18}
 use Rattle.bench.proofs.Benches.{bench-refuses, bench-refused, bench-answers, bench-proper, bench-others, bench-whole, bench-stays, bench-good}
@@ -90,8 +91,8 @@ demand-1-keeps s (bench v order k room) g h = bench-good s g v order k room
 pub record Accepts (old : Session) (b : List ℕ) : Type 0 where
   pub taken-if : (a : Allowed b) → loadOf old b ≡ taken (a .card)
   pub taken-only : (k : ℕ) → loadOf old b .answer ≡ Done k → Allowed b
-  pub refused-if : (r : Refusal) → Gets b r → loadOf old b ≡ refusal old r
-  pub refused-only : (r : Refusal) → loadOf old b .answer ≡ Refused r → Gets b r
+  pub refused-if : (r : Refusal) → LoadGets b r → loadOf old b ≡ refusal old r
+  pub refused-only : (r : Refusal) → loadOf old b .answer ≡ Refused r → LoadGets b r
 
 pub demand-2-accepts : (old : Session) (b : List ℕ) → Bytes b → Accepts old b
 demand-2-accepts old b h = record {
@@ -255,9 +256,8 @@ demand-3-order s g r v order good = run-any-order s g r (given (s .kinds) v) (st
 -- "The steps done number exactly the pairs of a gate and a time t that some chain of t gates joins to an input or constant."
 pub demand-3-count : (s : Session) → Good s → s .rested ≡ true → (v : List ℕ) → Vector (s .inputs) v
     → (k : ℕ) × (stepsVectorOf s v .answer ≡ Done k) × Number (Joined (cardOf s)) k
-unfolding stepsVectorOf
 demand-3-count s g r v fits =
-    (ranAlong s (given (s .kinds) v) (stepList (cardOf s)) .count, rw (r, vector-fits (s .inputs) v fits), steps-number s g r (given (s .kinds) v))
+    (ranAlong s (given (s .kinds) v) (stepList (cardOf s)) .count, ap (λ m. m .answer) (steps-takes s v r fits), steps-number s g r (given (s .kinds) v))
 
 -- "An order is turned away, by 15, 16 or 17, exactly when it isn't one of these."
 pub data OrderFault : Refusal → Type 0 where

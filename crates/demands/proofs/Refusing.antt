@@ -12,26 +12,26 @@ use Rattle.rule.specs.declared.Refusal.the-variants.{NotReady, NoRoom, NoInput,
 use Rattle.rule.specs.declared.Answer.{Answer}
 use Rattle.rule.specs.declared.Answer.the-variants.{Done, Refused}
 use Rattle.rule.specs.declared.NetAnswer.the-variants.{Net as Known, Refused as Unknown}
-use Rattle.wiring.specs.declared.Verdict.{Verdict}
-use Rattle.wiring.specs.declared.Verdict.the-variants.{Refused as Faulty, Passed}
-use Rattle.wiring.specs.Wired.{wiredOf}
-use Rattle.inputs.specs.Inputs.{given, vectorFits}
-use Rattle.records.specs.Scan.{Meaning, Stops, Means, meaning}
+use Rattle.card_wiring.specs.declared.Verdict.{Verdict}
+use Rattle.card_wiring.specs.declared.Verdict.the-variants.{Refused as Faulty, Passed}
+use Rattle.card_wiring.specs.Wired.{wiredOf}
+use Rattle.inputs.specs.Inputs.{given, vectorJudged}
+use Rattle.card_records.specs.Scan.{Meaning, Stops, Means, meaning}
 use Rattle.card.specs.declared.Session.{Session}
 use Rattle.card.specs.Session.{inputsOf, sessionOf, cardOf}
 use Rattle.card.specs.Load.{refusal, concluded, judged, loadMeant, loadOf}
 use Rattle.card.specs.Asked.{netAsked}
 use Rattle.session.specs.Moves.{refusedMove, moving, restOf, vectorOf}
 use Rattle.history.specs.Told.{Told, historyOf}
-use Rattle.traces.specs.Traced.{Traced, changedThen, traceOf}
-use Rattle.orders.specs.Orders.{orderJudged}
-use Rattle.listing.specs.Listing.{Listed, listOf}
-use Rattle.steps.specs.Vector.{stepsVectorOf}
+use Rattle.trace.specs.Traced.{Traced, changedThen, traceOf}
+use Rattle.step_orders.specs.Orders.{orderJudged}
+use Rattle.step_list.specs.Listing.{Listed, listOf}
+use Rattle.step_run.specs.Vector.{stepsVectorOf}
 use Rattle.step_records.specs.declared.StepRecord.{StepRecord}
 use Rattle.step_records.specs.Records.{Answered, recordsOf}
 use Rattle.bench.specs.Bench.{benchRefused, benchDone, benchOrder, benchVector, benchOf}
-use Rattle.moves.specs.declared.Engine.{Engine}
-use Rattle.moves.specs.declared.Engine.the-variants.{Fields, Steps}
+use Rattle.operations.specs.declared.Engine.{Engine}
+use Rattle.operations.specs.declared.Engine.the-variants.{Fields, Steps}
 use Rattle.demands.specs.Operations.{Operation, load, rest, vector, history, list, records, ask, trace, bench, Lent, slices, lentTo, Outcome, answered, told, outcome, Same}
 
 abbrev Refusing : Session → Lent → Outcome → Type 0
@@ -57,19 +57,18 @@ load-keeps s b = by-meaning (meaning b)
     by-meaning (Means c) = by-verdict c (eqb (inputsOf c) 0) (wiredOf c .verdict)
 
 -- an operation that takes a vector
-moves-keep : (s next : Session) (ready : Bool) (fits : Verdict) (k : ℕ) → let m = cond ready (moving s fits k next) (refusedMove s NotReady) in Refusing s (slices []) (answered (m .answer) (m .session) (slices []))
-moves-keep s next false fits k = refuses NotReady
-moves-keep s next true (Faulty why) k = refuses why
-moves-keep s next true Passed k = does k
+moves-keep : (s next : Session) (verdict : Verdict) (k : ℕ) → let m = moving s verdict k next in Refusing s (slices []) (answered (m .answer) (m .session) (slices []))
+moves-keep s next (Faulty why) k = refuses why
+moves-keep s next Passed k = does k
 
 vector-keeps : (s : Session) (e : Engine) (v : List ℕ) → Refusing s (slices []) (outcome s (vector e v))
 unfolding vectorOf stepsVectorOf
-vector-keeps s Fields v = moves-keep s _ (s .rested) (vectorFits (s .inputs) v) 0
-vector-keeps s Steps v = moves-keep s _ (s .rested) (vectorFits (s .inputs) v) _
+vector-keeps s Fields v = moves-keep s _ (vectorJudged (s .rested) (s .inputs) v) 0
+vector-keeps s Steps v = moves-keep s _ (vectorJudged (s .rested) (s .inputs) v) _
 
 rest-keeps : (s : Session) (v : List ℕ) → Refusing s (slices []) (outcome s (rest v))
 unfolding restOf
-rest-keeps s v = moves-keep s _ (s .loaded) (vectorFits (s .inputs) v) 0
+rest-keeps s v = moves-keep s _ (vectorJudged (s .loaded) (s .inputs) v) 0
 
 -- an operation that fills lent room: not ready, too little room, or done
 told-keeps : (s : Session) (ws bs fs ws' bs' fs' : List ℕ) (k : ℕ) (x y : Bool)
@@ -134,7 +133,7 @@ trace-keeps s n t room = go (s .rested) (ltb n (s .nets)) (changedThen s n t) (l
 
 bench-keeps : (s : Session) (v order : List ℕ) (k : ℕ) (room : List ℕ) → Refusing s (slices (room ∷ [])) (outcome s (bench v order k room))
 unfolding benchOf benchDone
-bench-keeps s v order k room = go (s .rested) (vectorFits (s .inputs) v)
+bench-keeps s v order k room = go (vectorJudged (s .rested) (s .inputs) v)
   where
     by-limits : (x y : Bool)
         → let b = cond x (cond y (benchDone s (given (s .kinds) v) order k room) (benchRefused s room NoRoom)) (benchRefused s room TooManyAsked) in
@@ -148,11 +147,9 @@ bench-keeps s v order k room = go (s .rested) (vectorFits (s .inputs) v)
     by-order (Faulty why) = refuses why
     by-order Passed = by-limits (leb k (length (stepList (cardOf s)))) (leb (length (stepList (cardOf s))) (length room))
 
-    go : (x : Bool) (f : Verdict)
-        → let b = cond x (benchVector s v order k room f) (benchRefused s room NotReady) in Refusing s (slices (room ∷ [])) (answered (b .moved .answer) (b .moved .session) (slices (b .room ∷ [])))
-    go false f = refuses NotReady
-    go true (Faulty why) = refuses why
-    go true Passed = by-order (orderJudged (cardOf s) order)
+    go : (x : Verdict) → let b = benchVector s v order k room x in Refusing s (slices (room ∷ [])) (answered (b .moved .answer) (b .moved .session) (slices (b .room ∷ [])))
+    go (Faulty why) = refuses why
+    go Passed = by-order (orderJudged (cardOf s) order)
 
 pub keeps : (s : Session) (o : Operation) → Refusing s (lentTo o) (outcome s o)
 keeps s (load b) = load-keeps s b

@@ -27,23 +27,23 @@ use Rattle.session.specs.Good.{Good}
 use Rattle.session.proofs.rest as rest-fn
 use Rattle.session.proofs.vector as vector-fn
 use Rattle.history.proofs.history as history-fn
-use Rattle.traces.proofs.trace as trace-fn
-use Rattle.listing.proofs.list as list-fn
-use Rattle.steps.proofs.vector_steps as steps-fn
+use Rattle.trace.proofs.trace as trace-fn
+use Rattle.step_list.proofs.list as list-fn
+use Rattle.step_run.proofs.vector_steps as steps-fn
 use Rattle.step_records.proofs.list_records as records-fn
 use Rattle.bench.proofs.bench as bench-fn
 use Rattle.sheet_text.specs.declared.Sheet.{Sheet}
-use Rattle.sheet_text.specs.Pieces.{Standing, fresh, pieceOf, Written, written, isOver}
+use Rattle.sheet_text.specs.Inner.Pieces.{Standing, fresh, pieceOf, Written, written, isOver}
 use Rattle.sheet_text.proofs.begin as begin-fn
 use Rattle.sheet_text.proofs.next as next-fn
 use Rattle.sheet_text.proofs.is_over as over-fn
-use Rattle.moves.specs.declared.Engine.{Engine}
-use Rattle.moves.specs.declared.Engine.the-variants.{Fields, Steps}
-use Rattle.moves.specs.declared.Move.{Move}
-use Rattle.moves.specs.declared.Move.the-variants.{Load, Rest, Vector}
-use Rattle.moves.specs.Operated.{vectorBy, operated}
-use Rattle.moves.proofs.vector_by as by-fn
-use Rattle.moves.proofs.operate as operate-fn
+use Rattle.operations.specs.declared.Engine.{Engine}
+use Rattle.operations.specs.declared.Engine.the-variants.{Fields, Steps}
+use Rattle.operations.specs.declared.Move.{Move}
+use Rattle.operations.specs.declared.Move.the-variants.{Load, Rest, Vector}
+use Rattle.operations.specs.Operated.{vectorBy, operated}
+use Rattle.operations.proofs.vector_by as by-fn
+use Rattle.operations.proofs.operate as operate-fn
 use Rattle.host.specs.Vectors.{ManyShown, hostVectors}
 use Rattle.host.specs.Calls.{Hosted, hostMove, Shown, hostHistory}
 use Rattle.host.proofs.krasvome_load as host-load-fn
@@ -53,7 +53,7 @@ use Rattle.host.proofs.krasvome_steps as host-steps-fn
 use Rattle.host.proofs.krasvome_history as host-history-fn
 use Rattle.host.proofs.krasvome_vectors as host-vectors-fn
 use Rattle.host.proofs.krasvome_vectors_steps as host-vectors-steps-fn
-use Rattle.demands.specs.Operations.{Operation, load, rest, vector, history, list, records, ask, trace, bench, Result, Allowed, handed, outcome}
+use Rattle.demands.specs.Operations.{Operation, load, rest, vector, history, list, records, ask, trace, bench, Result, Promised, handed, outcome}
 
 -- what the contract of a sheet's next piece allows
 abbrev pub PieceAllowed : Sheet → List ℕ → List ℕ → Written → Type 0
@@ -74,35 +74,35 @@ module _ {M : Type 1} (𝓤 : URA M) (H : Heap 𝓤) (A : Atoms 𝓤) (mem : Mem
   Promises T contract claim = (κs : Lfts (T .signature .lifetimes)) (a : Args (T .signature) κs)
       → let c = contract κs a in (g : c .ghost) (r : Res (T .signature) κs) (e : AtExit T κs) → c .ensures g r e ≡ fact 𝓤 (claim κs a r e)
 
-  pub load-promises : Promises load-fn.ended (load-fn.clauses 𝓤 H A mem run) (λ κs a r e. Allowed (a .0) (load (a .1 .0 .now)) r)
+  pub load-promises : Promises load-fn.ended (load-fn.clauses 𝓤 H A mem run) (λ κs a r e. Promised (a .0) (load (a .1 .0 .now)) r)
   load-promises κs a g r e = refl
 
-  pub rest-promises : Promises rest-fn.ended (rest-fn.clauses 𝓤 H A mem run) (λ κs a r e. Allowed (a .0) (rest (a .1 .0 .now)) r)
+  pub rest-promises : Promises rest-fn.ended (rest-fn.clauses 𝓤 H A mem run) (λ κs a r e. Promised (a .0) (rest (a .1 .0 .now)) r)
   rest-promises κs a g r e = refl
 
-  pub vector-promises : Promises vector-fn.ended (vector-fn.clauses 𝓤 H A mem run) (λ κs a r e. Allowed (a .0) (vector Fields (a .1 .0 .now)) r)
+  pub vector-promises : Promises vector-fn.ended (vector-fn.clauses 𝓤 H A mem run) (λ κs a r e. Promised (a .0) (vector Fields (a .1 .0 .now)) r)
   vector-promises κs a g r e = refl
 
-  pub steps-promises : Promises steps-fn.ended (steps-fn.clauses 𝓤 H A mem run) (λ κs a r e. Allowed (a .0) (vector Steps (a .1 .0 .now)) r)
+  pub steps-promises : Promises steps-fn.ended (steps-fn.clauses 𝓤 H A mem run) (λ κs a r e. Promised (a .0) (vector Steps (a .1 .0 .now)) r)
   steps-promises κs a g r e = refl
 
-  pub history-promises : Promises history-fn.ended (history-fn.clauses 𝓤 H A mem run) (λ κs a r e. Allowed (a .0) (history (a .1 .0 .now) (a .1 .1 .0 .now) (a .1 .1 .1 .0 .now))
+  pub history-promises : Promises history-fn.ended (history-fn.clauses 𝓤 H A mem run) (λ κs a r e. Promised (a .0) (history (a .1 .0 .now) (a .1 .1 .0 .now) (a .1 .1 .1 .0 .now))
       (record { answer = r; words = e .1 .0 .now; befores = e .1 .1 .0 .now; flags = e .1 .1 .1 .0 .now }))
   history-promises κs a g r e = refl
 
-  pub list-promises : Promises list-fn.ended (list-fn.clauses 𝓤 H A mem run) (λ κs a r e. Allowed (a .0) (list (a .1 .0 .now) (a .1 .1 .0 .now)) (record { answer = r; nets = e .1 .0 .now; times = e .1 .1 .0 .now }))
+  pub list-promises : Promises list-fn.ended (list-fn.clauses 𝓤 H A mem run) (λ κs a r e. Promised (a .0) (list (a .1 .0 .now) (a .1 .1 .0 .now)) (record { answer = r; nets = e .1 .0 .now; times = e .1 .1 .0 .now }))
   list-promises κs a g r e = refl
 
-  pub records-promises : Promises records-fn.ended (records-fn.clauses 𝓤 H A mem run) (λ κs a r e. Allowed (a .0) (records (a .1 .0 .now)) (record { answer = r; room = e .1 .0 .now }))
+  pub records-promises : Promises records-fn.ended (records-fn.clauses 𝓤 H A mem run) (λ κs a r e. Promised (a .0) (records (a .1 .0 .now)) (record { answer = r; room = e .1 .0 .now }))
   records-promises κs a g r e = refl
 
-  pub ask-promises : Promises ask-fn.ended (ask-fn.clauses 𝓤 H A mem run) (λ κs a r e. Allowed (a .0) (ask (a .1 .0)) r)
+  pub ask-promises : Promises ask-fn.ended (ask-fn.clauses 𝓤 H A mem run) (λ κs a r e. Promised (a .0) (ask (a .1 .0)) r)
   ask-promises κs a g r e = refl
 
-  pub trace-promises : Promises trace-fn.ended (trace-fn.clauses 𝓤 H A mem run) (λ κs a r e. Allowed (a .0) (trace (a .1 .0) (a .1 .1 .0) (a .1 .1 .1 .0 .now)) (record { answer = r; room = e .1 .1 .1 .0 .now }))
+  pub trace-promises : Promises trace-fn.ended (trace-fn.clauses 𝓤 H A mem run) (λ κs a r e. Promised (a .0) (trace (a .1 .0) (a .1 .1 .0) (a .1 .1 .1 .0 .now)) (record { answer = r; room = e .1 .1 .1 .0 .now }))
   trace-promises κs a g r e = refl
 
-  pub bench-promises : Promises bench-fn.ended (bench-fn.clauses 𝓤 H A mem run) (λ κs a r e. Allowed (a .0) (bench (a .1 .0 .now) (a .1 .1 .0 .now) (a .1 .1 .1 .0) (a .1 .1 .1 .1 .0 .now))
+  pub bench-promises : Promises bench-fn.ended (bench-fn.clauses 𝓤 H A mem run) (λ κs a r e. Promised (a .0) (bench (a .1 .0 .now) (a .1 .1 .0 .now) (a .1 .1 .1 .0) (a .1 .1 .1 .1 .0 .now))
       (record { moved = r; room = e .1 .1 .1 .1 .0 .now }))
   bench-promises κs a g r e = refl
 
@@ -225,11 +225,11 @@ module _ {M : Type 1} (𝓤 : URA M) (H : Heap 𝓤) (A : Atoms 𝓤) (mem : Mem
   }
 
 -- two results that the contract allows for the same session and input are equal: answer, session and lent memory
-pub results-equal : (s : Session) (o : Operation) (r r′ : Result o) → Allowed s o r → Allowed s o r′ → r ≡ r′
+pub results-equal : (s : Session) (o : Operation) (r r′ : Result o) → Promised s o r → Promised s o r′ → r ≡ r′
 results-equal s o r r′ e e′ = e ∙ sym e′
 
 -- and what an allowed result hands back is what the demands are stated of
-pub result-handed : (s : Session) (o : Operation) (r : Result o) → Allowed s o r → handed s o r ≡ outcome s o
+pub result-handed : (s : Session) (o : Operation) (r : Result o) → Promised s o r → handed s o r ≡ outcome s o
 result-handed s o r e = ap (handed s o) e
 
 -- the same of a sheet's next piece: text, sheet and lent page

@@ -10,8 +10,8 @@ use Rattle.rule.specs.Flag.{flagOf}
 use Rattle.rule.specs.Numbers.{answerNumber, answerCount}
 use Rattle.history.specs.Told.{Told}
 
--- "With 0 comes a count": "history the number of nets". "History fills three lent slices, one entry a net: word, before value (the one from ahead of that word's time 0),
--- flag." Of each net the before value and the values at the times 0 to 63
+-- "With 0 comes a count": "history the number of nets". "History fills three lent slices, one entry a net: word, before value (the one from ahead of that
+-- word's time 0), flag." Of each net the before value and the values at the times 0 to 63
 pub record HandsOut (c : List Net) (before : ℕ → Bool) (values : ℕ → ℕ → Bool) (told : Told) : Type 0 where
   pub number : answerNumber (told .answer) ≡ 0
   pub count : answerCount (told .answer) ≡ length c

@@ -12,10 +12,10 @@ use Rattle.card.specs.Asked.{netAsked}
 use Rattle.session.specs.declared.Moved.{Moved}
 use Rattle.session.specs.Moves.{restOf}
 use Rattle.history.specs.Told.{Told, historyOf}
-use Rattle.traces.specs.Traced.{Traced, traceOf}
-use Rattle.listing.specs.Listing.{Listed, listOf}
-use Rattle.moves.specs.declared.Engine.{Engine}
-use Rattle.moves.specs.Operated.{vectorBy}
+use Rattle.trace.specs.Traced.{Traced, traceOf}
+use Rattle.step_list.specs.Listing.{Listed, listOf}
+use Rattle.operations.specs.declared.Engine.{Engine}
+use Rattle.operations.specs.Operated.{vectorBy}
 use Rattle.step_records.specs.declared.StepRecord.{StepRecord}
 use Rattle.step_records.specs.Records.{Answered, recordsOf}
 use Rattle.bench.specs.Bench.{Benched, benchOf}
@@ -91,8 +91,8 @@ resultOf s (trace n t room) = traceOf s n t room
 resultOf s (bench v order k room) = benchOf s v order k room
 
 -- the results that the function's contract allows
-abbrev pub Allowed : Session → (o : Operation) → Result o → Type 0
-Allowed s o r = r ≡ resultOf s o
+abbrev pub Promised : Session → (o : Operation) → Result o → Type 0
+Promised s o r = r ≡ resultOf s o
 
 -- what a result hands back
 abbrev pub handed : Session → (o : Operation) → Result o → Outcome

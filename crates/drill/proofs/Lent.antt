@@ -5,7 +5,7 @@ use Prim.Native.Nat.{ℕ, _≤_}
 use native.Mathlib.Omega.{arith}
 use lib.ListN.{length, take, replicate, length-replicate}
 use lib.Seq.{length-take-le}
-use Rattle.drill_text.specs.Digits.{Filled}
+use Rattle.drill_text.specs.Inner.Filled.{Filled}
 
 -- the first n entries of `[v; k]` are n
 pub lent : (n k v : ℕ) → n ≤ k → n ≡ length (take n (replicate k v))

@@ -3,7 +3,7 @@
 ghost use mathlib.Core.Path.{_≡_};
 ghost use Prim.Native.Nat.{_+_, _≤_};
 ghost use lib.ListN.{set};
-ghost use Rattle.drill.specs.Kept.{slot};
+ghost use Rattle.drill.specs.Inner.Kept.{slot};
 use libc::STDOUT_FILENO;
 use rule::Answer;
 use rule::NetAnswer;

@@ -6,25 +6,26 @@
 //     history WORDS BEFORES FLAGS | list NETS TIMES | records ROOM | net N | trace N TIME ROOM
 //     bench HEX ORDER K ROOM
 mod answers;
-mod operations;
+mod lines;
 
 ghost use Prim.Native.Nat.{_≤_};
 ghost use lib.ListN.{length};
-ghost use Rattle.drill.specs.Kept.{Kept};
+ghost use Rattle.drill.specs.Inner.Kept.{Kept};
 use answers::flush;
 use answers::put;
 use card::Session;
 use drill_text::Command;
 use libc::STDIN_FILENO;
 use libc::STDOUT_FILENO;
+use lines::bench_line;
+use lines::history_line;
+use lines::list_line;
+use lines::move_line;
+use lines::net_line;
+use lines::records_line;
+use lines::trace_line;
+use operations::Engine;
 use operations::Move;
-use operations::bench_line;
-use operations::history_line;
-use operations::list_line;
-use operations::move_line;
-use operations::net_line;
-use operations::records_line;
-use operations::trace_line;
 
 // What a line leaves: the session, and how far the answers' buffer is filled.
 pub struct Turn {
@@ -32,7 +33,7 @@ pub struct Turn {
     pub at: usize,
 }
 
-// The answer to a line, without its LF. An operation is a function of `operations` and an arm here.
+// The answer to a line, without its LF. An operation is a function of `lines` and an arm here.
 fn answer(session: Session, line: &[u8], bytes: &mut [u8], out: &mut [u8; 8192], at: usize) -> Turn
     requires { ⌜ Kept session ⌝ }
     requires { ⌜ 70000 ≤ length (now bytes) ⌝ }
@@ -41,8 +42,8 @@ fn answer(session: Session, line: &[u8], bytes: &mut [u8], out: &mut [u8; 8192],
     match drill_text::command_of(line) {
         Command::Load => move_line(Move::Load, session, line, bytes, out, at),
         Command::Rest => move_line(Move::Rest, session, line, bytes, out, at),
-        Command::Vector => move_line(Move::Vector, session, line, bytes, out, at),
-        Command::Steps => move_line(Move::Steps, session, line, bytes, out, at),
+        Command::Vector => move_line(Move::Vector(Engine::Fields), session, line, bytes, out, at),
+        Command::Steps => move_line(Move::Vector(Engine::Steps), session, line, bytes, out, at),
         Command::Bench(k, room) => bench_line(session, line, bytes, k, room, out, at),
         Command::List(a, b) => {
             let end = list_line(session, a, b, out, at);

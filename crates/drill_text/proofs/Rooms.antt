@@ -14,9 +14,9 @@ use Rattle.drill_text.specs.declared.Number.the-variants.{Spelled, Unrea
 use Rattle.drill_text.specs.declared.Command.{Command}
 use Rattle.drill_text.specs.declared.Command.the-variants.{Bad, Load, Rest, Vector, Steps, History, List as Steplist, Records, Net, Trace, Bench}
 use Rattle.drill_text.specs.Parts.{words}
-use Rattle.drill_text.specs.Digits.{limited, numberOf, roomOf, isHex}
+use Rattle.drill_text.specs.Digits.{limited, numberSpelled, roomOf, isHex}
 use Rattle.drill_text.specs.Orders.{isOrder}
-use Rattle.drill_text.specs.Lines.{load, rest, vector, steps, history, list, records, net, trace, bench, ifHex, recordsOf, netOf, listOf, historyOf, traceOf, benchOf, withOne, withTwo, withThree, withFour, asked, commandOf}
+use Rattle.drill_text.specs.Lines.{load, rest, vector, steps, history, list, records, net, trace, bench, ifHex, asRecords, asNet, asList, asHistory, asTrace, asBench, withOne, withTwo, withThree, withFour, asked, commandOf}
 use Rattle.drill_text.proofs.Asking.{line-long}
 
 -- every room that a command asks for has at most 20,000 entries
@@ -53,32 +53,32 @@ either : (b : Bool) (x y : Command) → RoomsFit x → RoomsFit y → RoomsFit (
 either true x y p q = p
 either false x y p q = q
 
-records-fit : (x : Number) → Small x → RoomsFit (recordsOf x)
+records-fit : (x : Number) → Small x → RoomsFit (asRecords x)
 records-fit (Spelled n) p = p
 records-fit Unreadable p = tt
 
-net-fits : (x : Number) → RoomsFit (netOf x)
+net-fits : (x : Number) → RoomsFit (asNet x)
 net-fits (Spelled n) = tt
 net-fits Unreadable = tt
 
-list-fits : (x y : Number) → Small x → Small y → RoomsFit (listOf x y)
+list-fits : (x y : Number) → Small x → Small y → RoomsFit (asList x y)
 list-fits Unreadable y p q = tt
 list-fits (Spelled n) Unreadable p q = tt
 list-fits (Spelled n) (Spelled m) p q = (p, q)
 
-history-fits : (x y z : Number) → Small x → Small y → Small z → RoomsFit (historyOf x y z)
+history-fits : (x y z : Number) → Small x → Small y → Small z → RoomsFit (asHistory x y z)
 history-fits Unreadable y z p q r = tt
 history-fits (Spelled n) Unreadable z p q r = tt
 history-fits (Spelled n) (Spelled m) Unreadable p q r = tt
 history-fits (Spelled n) (Spelled m) (Spelled k) p q r = (p, q, r)
 
-trace-fits : (x y z : Number) → Small z → RoomsFit (traceOf x y z)
+trace-fits : (x y z : Number) → Small z → RoomsFit (asTrace x y z)
 trace-fits Unreadable y z r = tt
 trace-fits (Spelled n) Unreadable z r = tt
 trace-fits (Spelled n) (Spelled m) Unreadable r = tt
 trace-fits (Spelled n) (Spelled m) (Spelled k) r = r
 
-bench-fits : (x y : Number) → Small y → RoomsFit (benchOf x y)
+bench-fits : (x y : Number) → Small y → RoomsFit (asBench x y)
 bench-fits Unreadable y r = tt
 bench-fits (Spelled n) Unreadable r = tt
 bench-fits (Spelled n) (Spelled m) r = r
@@ -95,23 +95,23 @@ one-fits n a =
     (either (sameText n rest) _ _ (hex-fits a Rest tt)
     (either (sameText n vector) _ _ (hex-fits a Vector tt)
     (either (sameText n steps) _ _ (hex-fits a Steps tt)
-    (either (sameText n records) _ _ (records-fit (roomOf a) (small (numberOf a)))
-    (either (sameText n net) _ _ (net-fits (numberOf a)) tt)))))
+    (either (sameText n records) _ _ (records-fit (roomOf a) (small (numberSpelled a)))
+    (either (sameText n net) _ _ (net-fits (numberSpelled a)) tt)))))
 
 two-fits : (n a b : List ℕ) → RoomsFit (withTwo n a b)
 unfolding withTwo
-two-fits n a b = either (sameText n list) _ _ (list-fits (roomOf a) (roomOf b) (small (numberOf a)) (small (numberOf b))) tt
+two-fits n a b = either (sameText n list) _ _ (list-fits (roomOf a) (roomOf b) (small (numberSpelled a)) (small (numberSpelled b))) tt
 
 three-fits : (n a b c : List ℕ) → RoomsFit (withThree n a b c)
 unfolding withThree
 three-fits n a b c =
-    either (sameText n history) _ _ (history-fits (roomOf a) (roomOf b) (roomOf c) (small (numberOf a)) (small (numberOf b)) (small (numberOf c)))
-    (either (sameText n trace) _ _ (trace-fits (numberOf a) (numberOf b) (roomOf c) (small (numberOf c))) tt)
+    either (sameText n history) _ _ (history-fits (roomOf a) (roomOf b) (roomOf c) (small (numberSpelled a)) (small (numberSpelled b)) (small (numberSpelled c)))
+    (either (sameText n trace) _ _ (trace-fits (numberSpelled a) (numberSpelled b) (roomOf c) (small (numberSpelled c))) tt)
 
 four-fits : (n a b c d : List ℕ) → RoomsFit (withFour n a b c d)
 unfolding withFour
 four-fits n a b c d =
-    either (sameText n bench) _ _ (either (isHex a) _ _ (either (isOrder b) _ _ (bench-fits (numberOf c) (roomOf d) (small (numberOf d))) tt) tt) tt
+    either (sameText n bench) _ _ (either (isHex a) _ _ (either (isOrder b) _ _ (bench-fits (numberSpelled c) (roomOf d) (small (numberSpelled d))) tt) tt) tt
 
 asked-fits : (ws : List (List ℕ)) → RoomsFit (asked ws)
 unfolding asked

@@ -9,12 +9,12 @@ use lib.ListN.{length, getD, drop, drop-of-length-le}
 use borrow.Author.Tests.{lt-ltb, le-ltb, ne-eqb}
 use Rattle.text.proofs.Texts.{drop-next}
 use Rattle.drill_text.specs.declared.Number.the-variants.{Spelled, Unreadable}
-use Rattle.drill_text.specs.Digits.{digitOf, spelledFrom, numberOf, allDigits, byteOf, bytesOf}
+use Rattle.drill_text.specs.Digits.{digitOf, spelledFrom, numberSpelled, allDigits, byteOf, bytesOf}
 
 -- a number
 
-pub number-start : (w : List ℕ) → (length w ≡ 0 → ⊥) → numberOf w ≡ spelledFrom 0 w
-unfolding numberOf
+pub number-start : (w : List ℕ) → (length w ≡ 0 → ⊥) → numberSpelled w ≡ spelledFrom 0 w
+unfolding numberSpelled
 number-start w h = rw (ne-eqb (length w) 0 h)
 
 module _ (w : List ℕ) (i : ℕ) where

@@ -1,10 +1,9 @@
 -- Digits: a number of decimal digits, and bytes of two hexadecimal digits each. Assumes nothing.
-use mathlib.Core.Path.{_≡_}
 use mathlib.Core.Bool.{Bool, true, false, cond}
 use mathlib.Core.List.{List, [], _∷_}
-use Prim.Native.Nat.{ℕ, _+_, _-_, _*_, _%_, _^_, _≤_}
+use Prim.Native.Nat.{ℕ, _+_, _-_, _*_, _%_, _^_}
 use lib.Dec.{eqb, leb, ltb}
-use lib.ListN.{length, getD, take, drop}
+use lib.ListN.{length, getD}
 use Rattle.drill_text.specs.declared.Number.{Number}
 use Rattle.drill_text.specs.declared.Number.the-variants.{Spelled, Unreadable}
 
@@ -25,8 +24,8 @@ spelledFrom n (b ∷ bs) =
     cond (ltb (digitOf b) 10) (cond (ltb (10 * n + digitOf b) (2 ^ 64)) (spelledFrom (10 * n + digitOf b) bs) Unreadable) Unreadable
 
 -- the number that a word spells, by one digit or more
-unfoldable pub numberOf : List ℕ → Number
-numberOf word = cond (eqb (length word) 0) Unreadable (spelledFrom 0 word)
+unfoldable pub numberSpelled : List ℕ → Number
+numberSpelled word = cond (eqb (length word) 0) Unreadable (spelledFrom 0 word)
 
 -- "rooms to 20,000 entries"
 abbrev pub limited : Number → Number
@@ -35,7 +34,7 @@ limited Unreadable = Unreadable
 
 -- the length of a room
 abbrev pub roomOf : List ℕ → Number
-roomOf word = limited (numberOf word)
+roomOf word = limited (numberSpelled word)
 
 -- "`-` where empty"
 unfoldable pub isDash : List ℕ → Bool
@@ -61,12 +60,3 @@ unfoldable pub bytesOf : List ℕ → List ℕ
 bytesOf [] = []
 bytesOf (a ∷ []) = []
 bytesOf (a ∷ b ∷ bs) = byteOf a b ∷ bytesOf bs
-
--- n entries at the start of a room are those of a list, and the rest of the room is as it was. `part` follows from `room`; it stands here
--- so that a caller may lend the n entries without a proof
-pub record Filled (list old new : List ℕ) (n : ℕ) : Type 0 where
-  pub count : n ≡ length list
-  pub room : n ≤ length new
-  pub part : n ≡ length (take n new)
-  pub start : take n new ≡ list
-  pub rest : drop n new ≡ drop n old

@@ -10,7 +10,7 @@ use Rattle.drill_text.specs.declared.Number.the-variants.{Spelled, Unrea
 use Rattle.drill_text.specs.declared.Command.{Command}
 use Rattle.drill_text.specs.declared.Command.the-variants.{Bad, Load, Rest, Vector, Steps, History, List as Steplist, Records, Net, Trace, Bench}
 use Rattle.drill_text.specs.Parts.{words}
-use Rattle.drill_text.specs.Digits.{numberOf, roomOf, isHex}
+use Rattle.drill_text.specs.Digits.{numberSpelled, roomOf, isHex}
 use Rattle.drill_text.specs.Orders.{isOrder}
 
 -- the names of the operations, in ASCII
@@ -50,35 +50,35 @@ bench = 98 ∷ 101 ∷ 110 ∷ 99 ∷ 104 ∷ []
 abbrev pub ifHex : List ℕ → Command → Command
 ifHex word then = cond (isHex word) then Bad
 
-abbrev pub recordsOf : Number → Command
-recordsOf (Spelled room) = Records room
-recordsOf Unreadable = Bad
+abbrev pub asRecords : Number → Command
+asRecords (Spelled room) = Records room
+asRecords Unreadable = Bad
 
-abbrev pub netOf : Number → Command
-netOf (Spelled n) = Net n
-netOf Unreadable = Bad
+abbrev pub asNet : Number → Command
+asNet (Spelled n) = Net n
+asNet Unreadable = Bad
 
-abbrev pub listOf : Number → Number → Command
-listOf Unreadable y = Bad
-listOf (Spelled nets) Unreadable = Bad
-listOf (Spelled nets) (Spelled times) = Steplist nets times
+abbrev pub asList : Number → Number → Command
+asList Unreadable y = Bad
+asList (Spelled nets) Unreadable = Bad
+asList (Spelled nets) (Spelled times) = Steplist nets times
 
-abbrev pub historyOf : Number → Number → Number → Command
-historyOf Unreadable y z = Bad
-historyOf (Spelled w) Unreadable z = Bad
-historyOf (Spelled w) (Spelled b) Unreadable = Bad
-historyOf (Spelled w) (Spelled b) (Spelled f) = History w b f
+abbrev pub asHistory : Number → Number → Number → Command
+asHistory Unreadable y z = Bad
+asHistory (Spelled w) Unreadable z = Bad
+asHistory (Spelled w) (Spelled b) Unreadable = Bad
+asHistory (Spelled w) (Spelled b) (Spelled f) = History w b f
 
-abbrev pub traceOf : Number → Number → Number → Command
-traceOf Unreadable y z = Bad
-traceOf (Spelled n) Unreadable z = Bad
-traceOf (Spelled n) (Spelled t) Unreadable = Bad
-traceOf (Spelled n) (Spelled t) (Spelled room) = Trace n t room
+abbrev pub asTrace : Number → Number → Number → Command
+asTrace Unreadable y z = Bad
+asTrace (Spelled n) Unreadable z = Bad
+asTrace (Spelled n) (Spelled t) Unreadable = Bad
+asTrace (Spelled n) (Spelled t) (Spelled room) = Trace n t room
 
-abbrev pub benchOf : Number → Number → Command
-benchOf Unreadable y = Bad
-benchOf (Spelled k) Unreadable = Bad
-benchOf (Spelled k) (Spelled room) = Bench k room
+abbrev pub asBench : Number → Number → Command
+asBench Unreadable y = Bad
+asBench (Spelled k) Unreadable = Bad
+asBench (Spelled k) (Spelled room) = Bench k room
 
 -- `load HEX | rest HEX | vector HEX | steps HEX | records ROOM | net N`
 unfoldable pub withOne : List ℕ → List ℕ → Command
@@ -87,22 +87,22 @@ withOne name a =
     (cond (sameText name rest) (ifHex a Rest)
     (cond (sameText name vector) (ifHex a Vector)
     (cond (sameText name steps) (ifHex a Steps)
-    (cond (sameText name records) (recordsOf (roomOf a))
-    (cond (sameText name net) (netOf (numberOf a)) Bad)))))
+    (cond (sameText name records) (asRecords (roomOf a))
+    (cond (sameText name net) (asNet (numberSpelled a)) Bad)))))
 
 -- `list NETS TIMES`
 unfoldable pub withTwo : List ℕ → List ℕ → List ℕ → Command
-withTwo name a b = cond (sameText name list) (listOf (roomOf a) (roomOf b)) Bad
+withTwo name a b = cond (sameText name list) (asList (roomOf a) (roomOf b)) Bad
 
 -- `history WORDS BEFORES FLAGS | trace N TIME ROOM`
 unfoldable pub withThree : List ℕ → List ℕ → List ℕ → List ℕ → Command
 withThree name a b c =
-    cond (sameText name history) (historyOf (roomOf a) (roomOf b) (roomOf c))
-    (cond (sameText name trace) (traceOf (numberOf a) (numberOf b) (roomOf c)) Bad)
+    cond (sameText name history) (asHistory (roomOf a) (roomOf b) (roomOf c))
+    (cond (sameText name trace) (asTrace (numberSpelled a) (numberSpelled b) (roomOf c)) Bad)
 
 -- `bench HEX ORDER K ROOM`
 unfoldable pub withFour : List ℕ → List ℕ → List ℕ → List ℕ → List ℕ → Command
-withFour name a b c d = cond (sameText name bench) (cond (isHex a) (cond (isOrder b) (benchOf (numberOf c) (roomOf d)) Bad) Bad) Bad
+withFour name a b c d = cond (sameText name bench) (cond (isHex a) (cond (isOrder b) (asBench (numberSpelled c) (roomOf d)) Bad) Bad) Bad
 
 -- by the number of words
 unfoldable pub asked : List (List ℕ) → Command

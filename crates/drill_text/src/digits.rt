@@ -2,7 +2,8 @@
 ghost use mathlib.Core.Path.{_≡_};
 ghost use Prim.Native.Nat.{_+_, _*_, _/_, _≤_, _<_};
 ghost use lib.ListN.{length};
-ghost use Rattle.drill_text.specs.Digits.{digitOf, numberOf, roomOf, isDash, allDigits, isHex, nibbleOf, byteOf, bytesOf, Filled};
+ghost use Rattle.drill_text.specs.Digits.{digitOf, numberSpelled, roomOf, isDash, allDigits, isHex, nibbleOf, byteOf, bytesOf};
+ghost use Rattle.drill_text.specs.Inner.Filled.{Filled};
 use crate::Number;
 
 // A hexadecimal digit's value, and 16 for any other byte.
@@ -39,7 +40,7 @@ fn wide(x: u8) -> u64
 
 // The number that a word's decimal digits spell; no digits at all, another byte, or a number of 2^64 or more spells none.
 pub fn number_of(word: &[u8]) -> Number
-    ensures { λ r. ⌜ r ≡ numberOf (now (word .entry)) ⌝ }
+    ensures { λ r. ⌜ r ≡ numberSpelled (now (word .entry)) ⌝ }
 {
     if word.len() == 0 {
         return Number::Unreadable;

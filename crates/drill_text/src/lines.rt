@@ -1,6 +1,6 @@
 // A line as a command.
 ghost use mathlib.Core.Path.{_≡_};
-ghost use Rattle.drill_text.specs.Lines.{ifHex, recordsOf, netOf, listOf, historyOf, traceOf, benchOf, withOne, withTwo, withThree, withFour, commandOf};
+ghost use Rattle.drill_text.specs.Lines.{ifHex, asRecords, asNet, asList, asHistory, asTrace, asBench, withOne, withTwo, withThree, withFour, commandOf};
 use crate::Command;
 use crate::Number;
 use crate::digits::is_hex;
@@ -19,7 +19,7 @@ fn if_hex(word: &[u8], then: Command) -> Command
 
 // `records ROOM`
 fn records_of(room: Number) -> Command
-    ensures { λ r. ⌜ r ≡ recordsOf room ⌝ }
+    ensures { λ r. ⌜ r ≡ asRecords room ⌝ }
 {
     match room {
         Number::Spelled(n) => Command::Records(n),
@@ -29,7 +29,7 @@ fn records_of(room: Number) -> Command
 
 // `net N`
 fn net_of(net: Number) -> Command
-    ensures { λ r. ⌜ r ≡ netOf net ⌝ }
+    ensures { λ r. ⌜ r ≡ asNet net ⌝ }
 {
     match net {
         Number::Spelled(n) => Command::Net(n),
@@ -39,7 +39,7 @@ fn net_of(net: Number) -> Command
 
 // `list NETS TIMES`
 fn list_of(nets: Number, times: Number) -> Command
-    ensures { λ r. ⌜ r ≡ listOf nets times ⌝ }
+    ensures { λ r. ⌜ r ≡ asList nets times ⌝ }
 {
     let Number::Spelled(n) = nets else {
         return Command::Bad;
@@ -52,7 +52,7 @@ fn list_of(nets: Number, times: Number) -> Command
 
 // `history WORDS BEFORES FLAGS`
 fn history_of(words: Number, befores: Number, flags: Number) -> Command
-    ensures { λ r. ⌜ r ≡ historyOf words befores flags ⌝ }
+    ensures { λ r. ⌜ r ≡ asHistory words befores flags ⌝ }
 {
     let Number::Spelled(w) = words else {
         return Command::Bad;
@@ -68,7 +68,7 @@ fn history_of(words: Number, befores: Number, flags: Number) -> Command
 
 // `trace N TIME ROOM`
 fn trace_of(net: Number, time: Number, room: Number) -> Command
-    ensures { λ r. ⌜ r ≡ traceOf net time room ⌝ }
+    ensures { λ r. ⌜ r ≡ asTrace net time room ⌝ }
 {
     let Number::Spelled(n) = net else {
         return Command::Bad;
@@ -84,7 +84,7 @@ fn trace_of(net: Number, time: Number, room: Number) -> Command
 
 // `bench HEX ORDER K ROOM`, from its last two words.
 fn bench_of(k: Number, room: Number) -> Command
-    ensures { λ r. ⌜ r ≡ benchOf k room ⌝ }
+    ensures { λ r. ⌜ r ≡ asBench k room ⌝ }
 {
     let Number::Spelled(n) = k else {
         return Command::Bad;

@@ -2,8 +2,9 @@
 ghost use mathlib.Core.Path.{_≡_};
 ghost use Prim.Native.Nat.{_<_};
 ghost use lib.ListN.{length};
-ghost use Rattle.drill_text.specs.Digits.{numberOf, Filled};
-ghost use Rattle.drill_text.specs.Orders.{isSpelled, isOrder, entryIn, orderOf};
+ghost use Rattle.drill_text.specs.Digits.{numberSpelled};
+ghost use Rattle.drill_text.specs.Inner.Filled.{Filled};
+ghost use Rattle.drill_text.specs.Orders.{isSpelled, isOrder, orderEntry, orderSpelled};
 use crate::Number;
 use crate::digits::is_dash;
 use crate::digits::number_of;
@@ -12,7 +13,7 @@ use crate::parts::part_at;
 
 // Whether a word spells a number.
 fn is_number(word: &[u8]) -> bool
-    ensures { λ r. ⌜ r ≡ isSpelled (numberOf (now (word .entry))) ⌝ }
+    ensures { λ r. ⌜ r ≡ isSpelled (numberSpelled (now (word .entry))) ⌝ }
 {
     match number_of(word) {
         Number::Spelled(_) => true,
@@ -39,7 +40,7 @@ pub fn is_order(word: &[u8]) -> bool
 
 // An entry of an order: the number, and 65,535 for a larger one.
 fn entry_of(word: &[u8]) -> u16
-    ensures { λ r. ⌜ r ≡ entryIn (numberOf (now (word .entry))) ⌝ }
+    ensures { λ r. ⌜ r ≡ orderEntry (numberSpelled (now (word .entry))) ⌝ }
 {
     match number_of(word) {
         Number::Spelled(n) => { if n < 65535 { n as u16 } else { 65535 } }
@@ -50,7 +51,7 @@ fn entry_of(word: &[u8]) -> u16
 // The entries of an order, put at the start of `out`; how many there are.
 pub fn order_into(word: &[u8], out: &mut [u16]) -> usize
     requires { ⌜ length (now word) < length (now out) ⌝ }
-    ensures { λ r. ⌜ Filled (orderOf (now (word .entry))) (now (out .entry)) (now (out .exit)) r ⌝ }
+    ensures { λ r. ⌜ Filled (orderSpelled (now (word .entry))) (now (out .entry)) (now (out .exit)) r ⌝ }
 {
     if is_dash(word) {
         return 0;

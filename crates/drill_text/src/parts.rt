@@ -23,7 +23,8 @@ fn part_end(text: &[u8], from: usize, sep: u8) -> usize
 // Where the part after the one at `from` starts; one past the text's end where there is none.
 pub fn next_part(text: &[u8], from: usize, sep: u8) -> usize
     requires { ⌜ from ≤ length (now text) + 1 ⌝ }
-    ensures { λ r. ⌜ (r ≤ length (now (text .entry)) + 1) × (partsFrom sep (now (text .entry)) r ≡ drop 1 (partsFrom sep (now (text .entry)) from)) × (from ≤ length (now (text .entry)) → from < r) ⌝ }
+    ensures { λ r. ⌜ (r ≤ length (now (text .entry)) + 1) × (partsFrom sep (now (text .entry)) r ≡ drop 1 (partsFrom sep (now (text .entry)) from))
+        × (from ≤ length (now (text .entry)) → from < r) ⌝ }
 {
     if text.len() < from {
         return from;

@@ -20,32 +20,31 @@ use Rattle.rule.specs.Chain.{pcSet}
 use Rattle.rule.specs.Level.{longest, level, depth}
 use Rattle.rule.specs.Run.{made, step, run, ready}
 use Rattle.rule.specs.Steps.{readAt as readStep, stepReads, gateOrder, netSteps, stepList}
-use Rattle.wiring.specs.Layout.{kindsOf, typesOf, countsOf, placesOf, cardIn}
-use Rattle.wiring.specs.Wired.{pinsFit, mostBack, wiredOf, setWords}
-use Rattle.inputs.specs.Inputs.{rank, given, vectorFits}
-use Rattle.fields.specs.Fields.{startAt}
-use Rattle.records.specs.Bytes.{u16At, kindFits, typeFits, bodyFits, netRecord, recordAt, readAt}
-use Rattle.records.specs.Scan.{netMeant, scan}
-use Rattle.records.specs.Written.{netBytes, cardBytes}
+use Rattle.card_wiring.specs.Layout.{kindsOf, typesOf, countsOf, placesOf, cardIn}
+use Rattle.card_wiring.specs.Wired.{pinsFit, mostBack, wiredOf, setWords}
+use Rattle.inputs.specs.Inputs.{rank, inputNets, given, vectorFits, vectorJudged}
+use Rattle.card_records.specs.Bytes.{u16At, kindFits, typeFits, bodyFits, netRecord, recordAt, recordRead}
+use Rattle.card_records.specs.Scan.{netMeant, scan}
+use Rattle.card_records.specs.Written.{netBytes, cardBytes}
 use Rattle.card.specs.Session.{none, inputsOf, sessionOf, cardOf}
 use Rattle.card.specs.Load.{judged, loadOf}
 use Rattle.card.specs.Asked.{netAsked}
 use Rattle.session.specs.Good.{histories}
 use Rattle.session.specs.Moves.{ends, movedBy, vectorOf, settled, restedBy, restOf}
 use Rattle.history.specs.Told.{historyOf}
-use Rattle.traces.specs.Traced.{wayBack, traceOf}
-use Rattle.variables.specs.Variables.{heldIn, wordsOf, readIn, stepIn, historyOf as historyWord, historiesFrom}
-use Rattle.orders.specs.Orders.{entriesFit, orderReady, orderJudged}
-use Rattle.listing.specs.Listing.{listOf}
-use Rattle.steps.specs.Runs.{ran}
-use Rattle.steps.specs.Vector.{startVars, ranAlong, ranSession, stepsVectorOf}
+use Rattle.trace.specs.Traced.{wayBack, traceOf}
+use Rattle.step_vars.specs.Variables.{heldIn, wordsOf, readIn, stepIn, historyWord, historiesFrom}
+use Rattle.step_orders.specs.Orders.{entriesFit, orderReady, orderJudged}
+use Rattle.step_list.specs.Listing.{listOf}
+use Rattle.step_run.specs.Runs.{ran}
+use Rattle.step_run.specs.Vector.{startVars, ranAlong, ranSession, stepsVectorOf}
 use Rattle.bench.specs.Bench.{notDone, benchDone, benchOf}
 use Rattle.text.specs.Text.{digitsIn, decimal}
 use Rattle.sheet_text.specs.Lines.{refusedLine, firstLine, values, netLine, cardText, historyLine, vectorText}
 use Rattle.sheet_text.specs.Walk.{endFrom, cardEnd, entryIn, entryAt}
 use Rattle.sheet_text.specs.Sheet.{recordsText, loadedText, sheetOf}
-use Rattle.moves.specs.declared.Engine.{Engine}
-use Rattle.moves.specs.declared.Engine.the-variants.{Fields, Steps}
+use Rattle.operations.specs.declared.Engine.{Engine}
+use Rattle.operations.specs.declared.Engine.the-variants.{Fields, Steps}
 use Rattle.examples.specs.Calls.{Call, Reply, replies}
 use Rattle.examples.specs.Table.{Line, table}
 
@@ -94,7 +93,7 @@ passes : List Line → Bool
 passes row = sameBy sameReply (replies none (calls row)) (expected row)
 
 all-pass : every passes (table Fields) && every passes (table Steps) ≡ true
-unfolding passes table replies cardBytes netBytes u16At kindFits typeFits bodyFits netRecord recordAt readAt netMeant scan listed listedFrom loadOf judged none sessionOf wiredOf pinsFit mostBack openPin atPin netAt longest level depth gateOrder netSteps stepList pcSet setWords inputsOf count restOf vectorFits restedBy settled given rank value gate controls inverts controlled cardOf cardIn kindsOf typesOf countsOf placesOf openValue wordOf bit vectorOf movedBy histories ends historyOf flagOf changes causes wayBack traceOf netAsked listOf stepsVectorOf ranSession ranAlong startVars startAt ran stepIn readIn wordsOf heldIn historyWord historiesFrom greatest made step run ready readStep stepReads entriesFit orderReady orderJudged notDone benchDone benchOf digitsIn decimal refusedLine firstLine values netLine cardText historyLine vectorText endFrom cardEnd entryIn entryAt recordsText loadedText sheetOf
+unfolding passes table replies cardBytes netBytes u16At kindFits typeFits bodyFits netRecord recordAt recordRead netMeant scan listed listedFrom loadOf judged none sessionOf wiredOf pinsFit mostBack openPin atPin netAt longest level depth gateOrder netSteps stepList pcSet setWords inputsOf count restOf vectorFits vectorJudged inputNets restedBy settled given rank value gate controls inverts controlled cardOf cardIn kindsOf typesOf countsOf placesOf openValue wordOf bit vectorOf movedBy histories ends historyOf flagOf changes causes wayBack traceOf netAsked listOf stepsVectorOf ranSession ranAlong startVars ran stepIn readIn wordsOf heldIn historyWord historiesFrom greatest made step run ready readStep stepReads entriesFit orderReady orderJudged notDone benchDone benchOf digitsIn decimal refusedLine firstLine values netLine cardText historyLine vectorText endFrom cardEnd entryIn entryAt recordsText loadedText sheetOf
 all-pass = refl
 
 -- each example's sentence: the calls of its row hand back what the row says, by either engine

@@ -2,9 +2,9 @@
 use mathlib.Core.List.{List, [], _∷_, _++_}
 use Prim.Native.Nat.{ℕ, _-_, _^_}
 use Rattle.rule.specs.Net.{Net, input, gate, openPin}
-use Rattle.records.specs.Written.{cardBytes}
-use Rattle.moves.specs.declared.Engine.{Engine}
-use Rattle.moves.specs.declared.Engine.the-variants.{Fields, Steps}
+use Rattle.card_records.specs.Written.{cardBytes}
+use Rattle.operations.specs.declared.Engine.{Engine}
+use Rattle.operations.specs.declared.Engine.the-variants.{Fields, Steps}
 use Rattle.demands.specs.Operations.{Operation, load, rest, vector, history, list, ask, trace, bench}
 use Rattle.examples.specs.Calls.{Call, does, print, Reply, printed, lent}
 

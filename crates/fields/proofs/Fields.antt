@@ -1,7 +1,7 @@
 -- Fields along an order of the gates: a gate's word of its pins' words, and one gate more. Assumes nothing.
 use mathlib.Core.Path.{_≡_, refl, sym, ap, ap₂, _∙_}
 use mathlib.Core.Bool.{Bool, false, not, cond}
-use mathlib.Core.List.{List, map}
+use mathlib.Core.List.{List, map, map-map}
 use Prim.Native.Nat.{ℕ, zero, suc, _+_, _^_, _*_, _≤_, _<_}
 use native.Mathlib.Omega.{arith}
 use native.Mathlib.Decide.{ℕ-discrete}
@@ -15,41 +15,37 @@ use Rattle.lists.proofs.Listed.{listed-none, listed-at, out-listed, is-listed, 
 use Rattle.word.specs.Word.{bit, isOne, differ, wordOf, movedUp}
 use Rattle.word.proofs.Words.{is-word}
 use Rattle.gate.specs.Gate.{inverts, gate as gateFn}
-use Rattle.gate.specs.Pins.{byPins, ofPins}
-use Rattle.gate.proofs.Pins.{gate-by-pins}
+use Rattle.gate.specs.Inner.Pins.{byPins}
 use Rattle.rule.specs.Net.{openValue}
 use Rattle.rule.specs.Run.{run}
 use Rattle.rule.proofs.Nets.{at-open, at-net, not-open}
 use Rattle.rule.proofs.Runs.{run-leaves-others}
-use Rattle.wiring.specs.Layout.{pinsAt}
-use Rattle.wiring.specs.Wires.{Fitting}
-use Rattle.wiring.proofs.Passes.{pass-more}
+use Rattle.card_wiring.specs.Layout.{pinsAt}
+use Rattle.card_wiring.specs.Inner.Wires.{Fitting}
+use Rattle.card_wiring.proofs.Gathered.{gather-gate}
+use Rattle.card_wiring.proofs.Passes.{pass-more}
 use Rattle.inputs.specs.Inputs.{isInputKind, rank, inputNets, given}
 use Rattle.inputs.proofs.Vectors.{not-zero, rank-below, given-input}
 use Rattle.inputs.proofs.Nets.{Ranked, net-at, net-there}
-use Rattle.fields.specs.Fields.{fieldOf, fieldAt, pinWord, topsOf, passed, netsPut, byteWord, constantAt}
+use Rattle.fields.specs.Inner.Fields.{fieldOf, fieldAt, pinWord, topsOf, passed, netsPut, byteWord, constantAt}
 
--- the value at time t of the i-th pin of a gate; what the pins come to, pin by pin
-abbrev pub pin : List ℕ → List ℕ → ℕ → ℕ → ℕ → Bool
-pin words places g t i = bit (pinWord words (getD places (g * 8 + i) 0)) t
-
-pub gathered : (words counts places : List ℕ) (g ty t known j : ℕ) → j ≡ getD counts g 0 → bit known t ≡ byPins ty (listed (pin words places g t) j)
-    → bit known t ≡ byPins ty (map (λ w. bit w t) (map (pinWord words) (pinsAt counts places g)))
-gathered words counts places g ty t known j e h =
-    let place : ℕ → ℕ = λ i. getD places (g * 8 + i) 0 in
-    let count = getD counts g 0 in
-    h ∙ ap (byPins ty)
-    (ap (listed (pin words places g t)) e ∙ sym (ap (map (λ w. bit w t)) (map-listed (pinWord words) place count) ∙ map-listed (λ w. bit w t) (λ i. pinWord words (place i)) count))
+-- what pin p reads at time t
+abbrev pub pinBit : List ℕ → ℕ → ℕ → Bool
+pinBit words t p = bit (pinWord words p) t
 
 -- what a gate gives of what its pins come to, moved up by one, with the before value in bit 0, is its field
-pub field-made : (low i : Bool) (ty all r : ℕ) (ws : List ℕ) → (ty < 2 → length ws ≡ 1) → i ≡ inverts ty → ((t : ℕ) → bit all t ≡ byPins ty (map (λ w. bit w t) ws))
-    → r < 2 ^ 64 → ((t : ℕ) → t < 64 → bit r t ≡ movedUp low (λ u. differ (bit all u) i) t) → r ≡ fieldOf low ty ws
-unfolding fieldOf ofPins
-field-made low i ty all r ws one hi ha l h = is-word 64 (movedUp low (λ t. gateFn ty (map (λ w. bit w t) ws))) r l (λ t b. h t b ∙ at t b)
+pub field-made : (words counts places : List ℕ) (g : ℕ) (low i : Bool) (ty all r : ℕ) → (ty < 2 → getD counts g 0 ≡ 1) → i ≡ inverts ty
+    → ((t : ℕ) → bit all t ≡ byPins ty (map (pinBit words t) (pinsAt counts places g)))
+    → r < 2 ^ 64 → ((t : ℕ) → t < 64 → bit r t ≡ movedUp low (λ u. differ (bit all u) i) t) → r ≡ fieldOf low ty (map (pinWord words) (pinsAt counts places g))
+unfolding fieldOf
+field-made words counts places g low i ty all r one hi ha l h = is-word 64 (movedUp low gives) r l (λ t b. h t b ∙ at t b)
   where
-    at : (t : ℕ) → t < 64 → movedUp low (λ u. differ (bit all u) i) t ≡ movedUp low (λ u. gateFn ty (map (λ w. bit w u) ws)) t
+    gives : ℕ → Bool
+    gives t = gateFn ty (map (λ w. bit w t) (map (pinWord words) (pinsAt counts places g)))
+
+    at : (t : ℕ) → t < 64 → movedUp low (λ u. differ (bit all u) i) t ≡ movedUp low gives t
     at zero b = refl
-    at (suc u) b = ap₂ differ (ha u) hi ∙ gate-by-pins ty (map (λ w. bit w u) ws) (λ k. length-map ws (λ w. bit w u) ∙ one k)
+    at (suc u) b = gather-gate (pinBit words u) places g ty counts i (bit all u) _ one hi (ha u) refl ∙ ap (gateFn ty) (sym (map-map (λ w. bit w u) (pinWord words) (pinsAt counts places g)))
 
 -- A pass
 
@@ -80,15 +76,6 @@ own-top before types counts places start f i g words l apart e =
     (λ k m. let o = out-listed f i k m in ne-eqb g k (λ q. apart (o .0) (o .1) (sym (o .2) ∙ sym q)))
     ∙ at-net (wordOf 64 (λ t. openValue)) (λ m. getD start m 0) g (not-open g (omega arith)))
     ∙ sym (listed-at (λ n. bit (getD start n 0) 63) 256 g false l)
-
--- Ahead of a pass
-
-module _ (kind r : ℕ) (value before : Bool) where
-  pub start-input : kind ≡ 1 → r < 2 ^ 64 → ((t : ℕ) → t < 64 → bit r t ≡ value) → r ≡ wordOf 64 (λ t. cond (isInputKind kind) value before)
-  start-input e l h = rw (eq-eqb kind 1 e) (is-word 64 (λ t. value) r l h)
-
-  pub start-other : ¬ (kind ≡ 1) → r < 2 ^ 64 → ((t : ℕ) → t < 64 → bit r t ≡ before) → r ≡ wordOf 64 (λ t. cond (isInputKind kind) value before)
-  start-other e l h = rw (ne-eqb kind 1 e) (is-word 64 (λ t. before) r l h)
 
 -- a constant's value
 pub constant-value : (kind ty : ℕ) → kind ≡ 2 → not (eqb ty 0) ≡ constantAt kind ty

@@ -1,18 +1,17 @@
 // The bit-fields of a card: a pass over its gates, in the words themselves, and what stands in them ahead of one.
 ghost use mathlib.Core.Path.{_≡_};
-ghost use mathlib.Core.Bool.{false, cond};
+ghost use mathlib.Core.Bool.{false};
 ghost use mathlib.Core.List.{map};
 ghost use Prim.Native.Nat.{ℕ, _<_, _≤_};
 ghost use lib.ListN.{length, getD};
 ghost use Rattle.lists.specs.Listed.{listed};
 ghost use Rattle.word.specs.Word.{bit, wordOf};
 ghost use Rattle.gate.specs.Gate.{controls};
-ghost use Rattle.gate.specs.Pins.{byPins};
+ghost use Rattle.gate.specs.Inner.Pins.{byPins};
 ghost use Rattle.rule.specs.Net.{openValue};
-ghost use Rattle.wiring.specs.Layout.{pinsAt};
-ghost use Rattle.wiring.specs.Wires.{Wires, Fitting};
-ghost use Rattle.inputs.specs.Inputs.{isInputKind};
-ghost use Rattle.fields.specs.Fields.{Gates, fieldOf, pinWord, topsOf, passed, netsPut, byteWord, advanced, startAt, constantAt};
+ghost use Rattle.card_wiring.specs.Layout.{pinsAt};
+ghost use Rattle.card_wiring.specs.Inner.Wires.{Wires, Fitting};
+ghost use Rattle.fields.specs.Inner.Fields.{Gates, fieldOf, pinWord, topsOf, passed, netsPut, byteWord, advanced, constantAt};
 
 // The word of an open pin: its value at every time.
 pub fn open_word() -> u64
@@ -34,18 +33,22 @@ pub fn gather<'a>(
     requires { ⌜ Wires (now counts) (now places) n ⌝ }
     requires { ⌜ Fitting (now counts) (now places) n ⌝ }
     requires { ⌜ (g < 256) × (0 < getD (now counts) g 0) × (rule .controlling ≡ controls ty) ⌝ }
-    ensures { λ r. ⌜ ((t : ℕ) → bit r t ≡ byPins ty (map (λ w. bit w t) (map (pinWord (now (words .entry))) (pinsAt (now (counts .entry)) (now (places .entry)) g)))) ⌝ }
+    ensures { λ r. ⌜ ((t : ℕ) → bit r t
+        ≡ byPins ty (map (λ p. bit (pinWord (now (words .entry)) p) t) (pinsAt (now (counts .entry)) (now (places .entry)) g))) ⌝ }
 {
-    let count = wiring::wide(counts[g]);
+    let count = card_wiring::wide(counts[g]);
     let open = open_word();
-    let mut known = wiring::at_pin(words, places[g * 8], open);
+    let mut known = card_wiring::at_pin(words, places[g * 8], open);
     let mut j: usize = 1;
-    while j < count {
+    while j < 8 {
+        if count <= j {
+            return known;
+        }
         known = gate::with_word(
             ty,
             rule,
             known,
-            wiring::at_pin(words, places[g * 8 + j], open),
+            card_wiring::at_pin(words, places[g * 8 + j], open),
         );
         j += 1;
     }
@@ -72,9 +75,11 @@ fn field_of<'a>(
     requires { ⌜ Wires (now counts) (now places) n ⌝ }
     requires { ⌜ Fitting (now counts) (now places) n ⌝ }
     requires { ⌜ Gates (now types) (now counts) g ⌝ }
-    ensures { λ r. ⌜ r ≡ fieldOf (bit (getD (now (words .entry)) g 0) 63) (getD (now (types .entry)) g 0) (map (pinWord (now (words .entry))) (pinsAt (now (counts .entry)) (now (places .entry)) g)) ⌝ }
+    ensures { λ r. ⌜ r
+        ≡ fieldOf (bit (getD (now (words .entry)) g 0) 63) (getD (now (types .entry)) g 0)
+        (map (pinWord (now (words .entry))) (pinsAt (now (counts .entry)) (now (places .entry)) g)) ⌝ }
 {
-    let ty = wiring::wide(types[g]);
+    let ty = card_wiring::wide(types[g]);
     let rule = gate::rule_of(ty);
     let all = gather(words, counts, places, n, ty, rule, g);
     gate::field(rule, all, top(words[g]))
@@ -95,11 +100,13 @@ pub fn pass<'a>(
     requires { ⌜ (gates ≤ 256) × ((i : ℕ) → i < gates → Gates (now types) (now counts) (getD (now order) i 0)) ⌝ }
     requires { ⌜ ((i j : ℕ) → i < j → j < gates → ¬ (getD (now order) i 0 ≡ getD (now order) j 0)) ⌝ }
     requires { ⌜ length (now words) ≡ 256 ⌝ }
-    ensures { λ r. ⌜ now (words .exit) ≡ passed (topsOf (now (words .entry))) (now (types .entry)) (now (counts .entry)) (now (places .entry)) (now (words .entry)) (listed (λ i. getD (now (order .entry)) i 0) gates) ⌝ }
+    ensures { λ r. ⌜ now (words .exit)
+        ≡ passed (topsOf (now (words .entry))) (now (types .entry)) (now (counts .entry)) (now (places .entry)) (now (words .entry))
+        (listed (λ i. getD (now (order .entry)) i 0) gates) ⌝ }
 {
     let mut i: usize = 0;
     while i < gates {
-        let g = wiring::wide16(order[i]);
+        let g = card_wiring::wide16(order[i]);
         words[g] = field_of(words, types, counts, places, n, g);
         i += 1;
     }
@@ -112,7 +119,7 @@ pub fn put_inputs<'a>(words: &mut [u64; 256], inputs: &'a [u16; 256], v: &'a [u8
 {
     let mut j: usize = 0;
     while j < v.len() {
-        words[wiring::wide16(inputs[j])] = word::spread(v[j] != 0);
+        words[card_wiring::wide16(inputs[j])] = word::spread(v[j] != 0);
         j += 1;
     }
 }
@@ -134,38 +141,12 @@ pub fn advance<'a>(
     requires { ⌜ (gates ≤ 256) × ((i : ℕ) → i < gates → Gates (now types) (now counts) (getD (now order) i 0)) ⌝ }
     requires { ⌜ ((i j : ℕ) → i < j → j < gates → ¬ (getD (now order) i 0 ≡ getD (now order) j 0)) ⌝ }
     requires { ⌜ (length (now v) ≤ 256) × ((j : ℕ) → getD (now inputs) j 0 < 256) × (length (now words) ≡ 256) ⌝ }
-    ensures { λ r. ⌜ now (words .exit) ≡ advanced (now (inputs .entry)) (now (types .entry)) (now (counts .entry)) (now (places .entry)) (listed (λ i. getD (now (order .entry)) i 0) gates) (now (words .entry)) (now (v .entry)) ⌝ }
+    ensures { λ r. ⌜ now (words .exit)
+        ≡ advanced (now (inputs .entry)) (now (types .entry)) (now (counts .entry)) (now (places .entry))
+        (listed (λ i. getD (now (order .entry)) i 0) gates) (now (words .entry)) (now (v .entry)) ⌝ }
 {
     put_inputs(words, inputs, v);
     pass(words, types, counts, places, n, order, gates);
-}
-
-// The word that net n has ahead of a pass.
-fn start_word(kind: u8, value: bool, before: bool) -> u64
-    ensures { λ r. ⌜ r ≡ wordOf 64 (λ t. cond (isInputKind kind) value before) ⌝ }
-{
-    if kind == 1 {
-        word::spread(value)
-    } else {
-        word::spread(before)
-    }
-}
-
-// The words ahead of a pass: the inputs' new values, and the before values of all other nets.
-pub fn start<'a>(
-    kinds: &'a [u8; 256],
-    values: &'a [bool; 256],
-    before: &'a [bool; 256],
-) -> [u64; 256]
-    ensures { λ r. ⌜ r ≡ listed (startAt (now (kinds .entry)) (now (values .entry)) (now (before .entry))) 256 ⌝ }
-{
-    let mut words = [0u64; 256];
-    let mut n: usize = 0;
-    while n < 256 {
-        words[n] = start_word(kinds[n], values[n], before[n]);
-        n += 1;
-    }
-    words
 }
 
 // The values at time 63.

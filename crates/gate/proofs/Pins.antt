@@ -13,7 +13,7 @@ use Rattle.lists.specs.Listed.{listed}
 use Rattle.lists.proofs.Tests.{some-append, every-append}
 use Rattle.lists.proofs.Listed.{listed-none, listed-more}
 use Rattle.word.specs.Word.{differ}
-use Rattle.gate.specs.Pins.{byPins, withPin, ofPins}
+use Rattle.gate.specs.Inner.Pins.{byPins, withPin, ofPins}
 use Rattle.gate.specs.Gate.{inverts, controls, controlled, odd, gate}
 
 -- `a ^ b` on bools, as the logic has it

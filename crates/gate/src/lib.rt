@@ -2,7 +2,7 @@
 ghost use mathlib.Core.Path.{_≡_};
 ghost use Prim.Native.Nat.{ℕ, _<_};
 ghost use Rattle.word.specs.Word.{bit, differ, movedUp};
-ghost use Rattle.gate.specs.Pins.{withPin};
+ghost use Rattle.gate.specs.Inner.Pins.{withPin};
 ghost use Rattle.gate.specs.Gate.{controls, inverts};
 
 pub struct Rule {

@@ -86,7 +86,8 @@ fn put_befores(before: &[bool; 256], n: usize, room: &mut [u8])
 // Their flags.
 fn put_flags<'a>(words: &'a [u64; 256], before: &'a [bool; 256], n: usize, room: &mut [u8])
     requires { ⌜ (n ≤ 256) × (n ≤ length (now room)) ⌝ }
-    ensures { λ r. ⌜ now (room .exit) ≡ filled (λ (i : ℕ). flagOf (getD (now (before .entry)) i false) (bit (getD (now (words .entry)) i 0))) n (now (room .entry)) ⌝ }
+    ensures { λ r. ⌜ now (room .exit)
+        ≡ filled (λ (i : ℕ). flagOf (getD (now (before .entry)) i false) (bit (getD (now (words .entry)) i 0))) n (now (room .entry)) ⌝ }
 {
     let mut i: usize = 0;
     while i < n {
@@ -98,7 +99,8 @@ fn put_flags<'a>(words: &'a [u64; 256], before: &'a [bool; 256], n: usize, room:
 // The histories of the last vector, a word, a before value and a flag a net, into lent room.
 pub fn history(s: Session, words: &mut [u64], befores: &mut [u8], flags: &mut [u8]) -> Answer
     requires { ⌜ Good s ⌝ }
-    ensures { λ r. ⌜ record { answer = r; words = now (words .exit); befores = now (befores .exit); flags = now (flags .exit) } ≡ historyOf s (now (words .entry)) (now (befores .entry)) (now (flags .entry)) ⌝ }
+    ensures { λ r. ⌜ record { answer = r; words = now (words .exit); befores = now (befores .exit); flags = now (flags .exit) }
+        ≡ historyOf s (now (words .entry)) (now (befores .entry)) (now (flags .entry)) ⌝ }
 {
     if !s.rested {
         return Answer::Refused(Refusal::NotReady);

@@ -10,9 +10,10 @@ use Rattle.rule.specs.declared.Refusal.the-variants.{NotReady, NoRoom}
 use Rattle.rule.specs.declared.Answer.{Answer}
 use Rattle.rule.specs.declared.Answer.the-variants.{Done, Refused}
 use Rattle.card.specs.declared.Session.{Session}
-use Rattle.moves.specs.declared.Engine.{Engine}
-use Rattle.making.specs.Made.{madeAgain}
-use Rattle.many.specs.Many.{manyBy, manyJudged, keptMany}
+use Rattle.operations.specs.declared.Engine.{Engine}
+use Rattle.host_bytes.specs.Layout.{sessionLength}
+use Rattle.host_made.specs.Made.{madeAgain}
+use Rattle.host_many.specs.Many.{manyBy, manyJudged, keptMany}
 use Rattle.host.specs.Calls.{packed}
 use Rattle.host.specs.Vectors.{manyDone, hostVectors}
 
@@ -26,15 +27,17 @@ module _ (engine : Engine) (s : Session) (b vs room : List ℕ) where
       (λ i. record { answer = (h ∙ ap (λ x. packed (Done x)) n) i; bytes = p i; words = q i }) ∙ sym (ap (manyDone engine s b vs room) e)
 
 module _ (engine : Engine) (b vs room : List ℕ) where
-  pub vectors-short : (r : ℕ) → length b < 5895 → r ≡ packed (Refused NoRoom) → record { answer = r; bytes = b; words = room } ≡ hostVectors engine b vs room
+  pub vectors-short : (r : ℕ) → length b < sessionLength → r ≡ packed (Refused NoRoom)
+      → record { answer = r; bytes = b; words = room } ≡ hostVectors engine b vs room
   unfolding hostVectors
-  vectors-short r l q = rw (lt-ltb (length b) 5895 l) (ap (λ x. record { answer = x; bytes = b; words = room }) q)
+  vectors-short r l q = rw lt-ltb (ap (λ x. record { answer = x; bytes = b; words = room }) q)
 
-  pub vectors-broken : (r : ℕ) → 5895 ≤ length b → madeAgain b .whole ≡ false → r ≡ packed (Refused NotReady) → record { answer = r; bytes = b; words = room } ≡ hostVectors engine b vs room
+  pub vectors-broken : (r : ℕ) → sessionLength ≤ length b → madeAgain b .whole ≡ false → r ≡ packed (Refused NotReady)
+      → record { answer = r; bytes = b; words = room } ≡ hostVectors engine b vs room
   unfolding hostVectors
-  vectors-broken r l e q = rw (le-ltb (length b) 5895 l, e) (ap (λ x. record { answer = x; bytes = b; words = room }) q)
+  vectors-broken r l e q = rw (le-ltb, e) (ap (λ x. record { answer = x; bytes = b; words = room }) q)
 
-  pub vectors-done : 5895 ≤ length b → madeAgain b .whole ≡ true
+  pub vectors-done : sessionLength ≤ length b → madeAgain b .whole ≡ true
       → (let s = madeAgain b .session in manyDone engine s b vs room (manyJudged s vs (length room))) ≡ hostVectors engine b vs room
   unfolding hostVectors
-  vectors-done l e = rw (le-ltb (length b) 5895 l, e)
+  vectors-done l e = rw (le-ltb, e)

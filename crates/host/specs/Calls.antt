@@ -9,10 +9,11 @@ use Rattle.rule.specs.declared.Answer.{Answer}
 use Rattle.rule.specs.declared.Answer.the-variants.{Done, Refused}
 use Rattle.rule.specs.Numbers.{answerNumber, answerCount}
 use Rattle.history.specs.Told.{historyOf}
-use Rattle.moves.specs.declared.Move.{Move}
-use Rattle.moves.specs.Operated.{operated}
-use Rattle.keeping.specs.Kept.{keptBy}
-use Rattle.making.specs.Made.{madeAgain}
+use Rattle.operations.specs.declared.Move.{Move}
+use Rattle.operations.specs.Operated.{operated}
+use Rattle.host_bytes.specs.Layout.{sessionLength}
+use Rattle.host_bytes.specs.Kept.{keptBy}
+use Rattle.host_made.specs.Made.{madeAgain}
 
 -- an answer as one number: the paper's number, and 256 times the count. "With 0 comes a count." No count is over 4,096 (`packed-plain`)
 unfoldable pub packed : Answer → ℕ
@@ -32,7 +33,7 @@ leftBy how (Done count) b v = record { answer = packed (Done count); bytes = kep
 unfoldable pub hostMove : Move → List ℕ → List ℕ → Hosted
 hostMove how b v =
     let m = madeAgain b in
-    cond (ltb (length b) 5895) (record { answer = packed (Refused NoRoom); bytes = b })
+    cond (ltb (length b) sessionLength) (record { answer = packed (Refused NoRoom); bytes = b })
     (cond (m .whole) (leftBy how (operated how (m .session) v .answer) b v) (record { answer = packed (Refused NotReady); bytes = b }))
 
 pub record Shown : Type 0 where
@@ -46,5 +47,5 @@ hostHistory b words befores flags =
     let m = madeAgain b in
     let h = historyOf (m .session) words befores flags in
     let kept : Answer → Shown = λ a. record { answer = packed a; words = words; befores = befores; flags = flags } in
-    cond (ltb (length b) 5895) (kept (Refused NoRoom))
+    cond (ltb (length b) sessionLength) (kept (Refused NoRoom))
     (cond (m .whole) (record { answer = packed (h .answer); words = h .words; befores = h .befores; flags = h .flags }) (kept (Refused NotReady)))

@@ -8,9 +8,10 @@ use Rattle.rule.specs.declared.Refusal.the-variants.{NotReady, NoRoom}
 use Rattle.rule.specs.declared.Answer.{Answer}
 use Rattle.rule.specs.declared.Answer.the-variants.{Done, Refused}
 use Rattle.card.specs.declared.Session.{Session}
-use Rattle.moves.specs.declared.Engine.{Engine}
-use Rattle.making.specs.Made.{madeAgain}
-use Rattle.many.specs.Many.{manyBy, manyJudged, keptMany}
+use Rattle.operations.specs.declared.Engine.{Engine}
+use Rattle.host_bytes.specs.Layout.{sessionLength}
+use Rattle.host_made.specs.Made.{madeAgain}
+use Rattle.host_many.specs.Many.{manyBy, manyJudged, keptMany}
 use Rattle.host.specs.Calls.{packed}
 
 pub record ManyShown : Type 0 where
@@ -29,5 +30,5 @@ unfoldable pub hostVectors : Engine → List ℕ → List ℕ → List ℕ → M
 hostVectors engine b vs room =
     let m = madeAgain b in
     let kept : Answer → ManyShown = λ a. record { answer = packed a; bytes = b; words = room } in
-    cond (ltb (length b) 5895) (kept (Refused NoRoom))
+    cond (ltb (length b) sessionLength) (kept (Refused NoRoom))
     (cond (m .whole) (manyDone engine (m .session) b vs room (manyJudged (m .session) vs (length room))) (kept (Refused NotReady)))

@@ -4,14 +4,15 @@ ghost use mathlib.Core.Path.{_≡_};
 ghost use Prim.Native.Nat.{_≤_};
 ghost use lib.ListN.{length};
 ghost use Rattle.session.specs.Good.{Good};
-ghost use Rattle.moves.specs.declared.Engine.the-variants.{Fields, Steps};
-ghost use Rattle.moves.specs.declared.Move.the-variants.{Load, Rest, Vector};
-ghost use Rattle.many.specs.Many.{manyJudged};
+ghost use Rattle.operations.specs.declared.Engine.the-variants.{Fields, Steps};
+ghost use Rattle.operations.specs.declared.Move.the-variants.{Load, Rest, Vector};
+ghost use Rattle.host_bytes.specs.Layout.{sessionLength};
+ghost use Rattle.host_many.specs.Many.{manyJudged};
 ghost use Rattle.host.specs.Calls.{packed, leftBy, hostMove, hostHistory};
 ghost use Rattle.host.specs.Vectors.{manyDone, hostVectors};
 use card::Session;
-use moves::Engine;
-use moves::Move;
+use operations::Engine;
+use operations::Move;
 use rule::Answer;
 use rule::Refusal;
 
@@ -26,13 +27,13 @@ fn pack(answer: Answer) -> u64
 
 // What a call leaves of the bytes: those of the session that was left, if it was done.
 fn left_by(how: Move, answer: Answer, b: &mut [u8], v: &[u8]) -> u64
-    requires { ⌜ 5895 ≤ length (now b) ⌝ }
+    requires { ⌜ sessionLength ≤ length (now b) ⌝ }
     ensures { λ r. ⌜ record { answer = r; bytes = now (b .exit) } ≡ leftBy how answer (now (b .entry)) (now (v .entry)) ⌝ }
 {
     match answer {
         Answer::Refused(_) => pack(answer),
         Answer::Done(_) => {
-            keeping::keep(b, how, v);
+            host_bytes::keep(b, how, v);
             pack(answer)
         }
     }
@@ -42,14 +43,14 @@ fn left_by(how: Move, answer: Answer, b: &mut [u8], v: &[u8]) -> u64
 fn host_move(how: Move, b: &mut [u8], v: &[u8]) -> u64
     ensures { λ r. ⌜ record { answer = r; bytes = now (b .exit) } ≡ hostMove how (now (b .entry)) (now (v .entry)) ⌝ }
 {
-    if b.len() < keeping::SESSION {
+    if b.len() < host_bytes::SESSION_LENGTH {
         return pack(Answer::Refused(Refusal::NoRoom));
     }
-    let made = making::made_again(b);
+    let made = host_made::made_again(b);
     if !made.whole {
         return pack(Answer::Refused(Refusal::NotReady));
     }
-    let left = moves::operate(how, made.session, v);
+    let left = operations::operate(how, made.session, v);
     let answer = left.answer;
     left_by(how, answer, b, v)
 }
@@ -89,12 +90,13 @@ pub extern "C" fn krasvome_history(
     befores: &mut [u8],
     flags: &mut [u8],
 ) -> u64
-    ensures { λ r. ⌜ record { answer = r; words = now (words .exit); befores = now (befores .exit); flags = now (flags .exit) } ≡ hostHistory (now (session .entry)) (now (words .entry)) (now (befores .entry)) (now (flags .entry)) ⌝ }
+    ensures { λ r. ⌜ record { answer = r; words = now (words .exit); befores = now (befores .exit); flags = now (flags .exit) }
+        ≡ hostHistory (now (session .entry)) (now (words .entry)) (now (befores .entry)) (now (flags .entry)) ⌝ }
 {
-    if session.len() < keeping::SESSION {
+    if session.len() < host_bytes::SESSION_LENGTH {
         return pack(Answer::Refused(Refusal::NoRoom));
     }
-    let made = making::made_again(session);
+    let made = host_made::made_again(session);
     if !made.whole {
         return pack(Answer::Refused(Refusal::NotReady));
     }
@@ -104,15 +106,17 @@ pub extern "C" fn krasvome_history(
 // Many vectors on a session that was made again.
 fn do_many(engine: Engine, s: Session, b: &mut [u8], vectors: &[u8], words: &mut [u64]) -> u64
     requires { ⌜ Good s ⌝ }
-    requires { ⌜ 5895 ≤ length (now b) ⌝ }
-    ensures { λ r. ⌜ record { answer = r; bytes = now (b .exit); words = now (words .exit) } ≡ manyDone engine s (now (b .entry)) (now (vectors .entry)) (now (words .entry)) (manyJudged s (now (vectors .entry)) (length (now (words .entry)))) ⌝ }
+    requires { ⌜ sessionLength ≤ length (now b) ⌝ }
+    ensures { λ r. ⌜ record { answer = r; bytes = now (b .exit); words = now (words .exit) }
+        ≡ manyDone engine s (now (b .entry)) (now (vectors .entry)) (now (words .entry))
+        (manyJudged s (now (vectors .entry)) (length (now (words .entry)))) ⌝ }
 {
-    let verdict = many::judge_many(s, vectors, words.len());
+    let verdict = host_many::judge_many(s, vectors, words.len());
     match verdict {
         Answer::Refused(_) => pack(verdict),
         Answer::Done(k) => {
-            let count = many::run_many(engine, s, vectors, k, words);
-            many::keep_many(b, engine, vectors, s.inputs, k);
+            let count = host_many::run_many(engine, s, vectors, k, words);
+            host_many::keep_many(b, engine, vectors, s.inputs, k);
             pack(Answer::Done(count))
         }
     }
@@ -120,12 +124,13 @@ fn do_many(engine: Engine, s: Session, b: &mut [u8], vectors: &[u8], words: &mut
 
 // A call that runs many vectors: 18, 12, and then all of them or none.
 fn host_vectors(engine: Engine, session: &mut [u8], vectors: &[u8], words: &mut [u64]) -> u64
-    ensures { λ r. ⌜ record { answer = r; bytes = now (session .exit); words = now (words .exit) } ≡ hostVectors engine (now (session .entry)) (now (vectors .entry)) (now (words .entry)) ⌝ }
+    ensures { λ r. ⌜ record { answer = r; bytes = now (session .exit); words = now (words .exit) }
+        ≡ hostVectors engine (now (session .entry)) (now (vectors .entry)) (now (words .entry)) ⌝ }
 {
-    if session.len() < keeping::SESSION {
+    if session.len() < host_bytes::SESSION_LENGTH {
         return pack(Answer::Refused(Refusal::NoRoom));
     }
-    let made = making::made_again(session);
+    let made = host_made::made_again(session);
     if !made.whole {
         return pack(Answer::Refused(Refusal::NotReady));
     }
@@ -134,7 +139,8 @@ fn host_vectors(engine: Engine, session: &mut [u8], vectors: &[u8], words: &mut 
 
 #[no_mangle]
 pub extern "C" fn krasvome_vectors(session: &mut [u8], vectors: &[u8], words: &mut [u64]) -> u64
-    ensures { λ r. ⌜ record { answer = r; bytes = now (session .exit); words = now (words .exit) } ≡ hostVectors Fields (now (session .entry)) (now (vectors .entry)) (now (words .entry)) ⌝ }
+    ensures { λ r. ⌜ record { answer = r; bytes = now (session .exit); words = now (words .exit) }
+        ≡ hostVectors Fields (now (session .entry)) (now (vectors .entry)) (now (words .entry)) ⌝ }
 {
     host_vectors(Engine::Fields, session, vectors, words)
 }
@@ -145,7 +151,8 @@ pub extern "C" fn krasvome_vectors_steps(
     vectors: &[u8],
     words: &mut [u64],
 ) -> u64
-    ensures { λ r. ⌜ record { answer = r; bytes = now (session .exit); words = now (words .exit) } ≡ hostVectors Steps (now (session .entry)) (now (vectors .entry)) (now (words .entry)) ⌝ }
+    ensures { λ r. ⌜ record { answer = r; bytes = now (session .exit); words = now (words .exit) }
+        ≡ hostVectors Steps (now (session .entry)) (now (vectors .entry)) (now (words .entry)) ⌝ }
 {
     host_vectors(Engine::Steps, session, vectors, words)
 }

@@ -1,11 +1,11 @@
--- A vector read byte by byte: its bytes fit, and the values that it gives the inputs. Assumes nothing.
+-- A vector byte by byte: its bytes fit, and the values that it gives the inputs. Assumes nothing.
 use mathlib.Core.Path.{_≡_, refl, sym, ap, _∙_}
-use mathlib.Core.Bool.{Bool, true, false, not}
+use mathlib.Core.Bool.{true, false, not}
 use mathlib.Core.List.{List}
 use Prim.Native.Nat.{ℕ, zero, suc, _+_, _-_, _≤_, _<_}
 use native.Mathlib.Omega.{arith}
 use lib.Dec.{eqb}
-use lib.ListN.{length, getD, replicate}
+use lib.ListN.{length, getD}
 use borrow.Author.Tests.{eq-eqb, ne-eqb, le-ltb}
 use Rattle.lists.specs.Entries.{every}
 use Rattle.lists.specs.Listed.{listed}
@@ -14,9 +14,7 @@ use Rattle.lists.proofs.Listed.{listed-self, in-listed}
 use Rattle.word.specs.Word.{isOne, val}
 use Rattle.word.specs.Times.{count}
 use Rattle.word.proofs.Sets.{count-le, count-more}
-use Rattle.rule.specs.declared.Refusal.the-variants.{VectorLength, VectorByte}
-use Rattle.wiring.specs.declared.Verdict.the-variants.{Refused, Passed}
-use Rattle.inputs.specs.Inputs.{isInputKind, rank, given, byteFits, vectorFits, inputsRead}
+use Rattle.inputs.specs.Inputs.{isInputKind, rank, given, byteFits}
 use Rattle.inputs.specs.Allowed.{byteLimit}
 
 -- `x != 0`
@@ -83,19 +81,3 @@ module _ (kinds : List ℕ) where
     pub given-other : (n : ℕ) → ¬ (getD kinds n 0 ≡ 1) → false ≡ given kinds v n
     unfolding given
     given-other n e = rw (ne-eqb (getD kinds n 0) 1 e)
-
--- A vector read: 10, 11, or its values
-
-module _ (kinds : List ℕ) (inputs : ℕ) (v : List ℕ) where
-  pub read-length : ¬ (length v ≡ inputs) → record { verdict = Refused VectorLength; values = replicate 256 false } ≡ inputsRead kinds inputs v
-  unfolding inputsRead vectorFits
-  read-length e = rw (ne-eqb (length v) inputs e)
-
-  pub read-byte : length v ≡ inputs → every byteFits v ≡ false → record { verdict = Refused VectorByte; values = replicate 256 false } ≡ inputsRead kinds inputs v
-  unfolding inputsRead vectorFits
-  read-byte e h = rw (eq-eqb (length v) inputs e, h)
-
-  pub read-values : length v ≡ inputs → every byteFits v ≡ true → (values : List Bool) → values ≡ listed (given kinds v) 256
-      → record { verdict = Passed; values = values } ≡ inputsRead kinds inputs v
-  unfolding inputsRead vectorFits
-  read-values e h values q = rw (eq-eqb (length v) inputs e, h, q)

@@ -18,7 +18,7 @@ pub record Vector (inputs : ℕ) (v : List ℕ) : Type 0 where
   pub bits : (b : ℕ) → b ∈ v → b < byteLimit
 
 -- "Rest: 12 (card only), 10, 11. Vector by either engine: 12, 10, 11." `ready`: there is a card; for a vector, it is rested
-pub data Gets (ready : Bool) (inputs : ℕ) (v : List ℕ) : Refusal → Type 0 where
-  gets-12 : ready ≡ false → Gets ready inputs v NotReady
-  gets-10 : ready ≡ true → ¬ (length v ≡ inputs) → Gets ready inputs v VectorLength
-  gets-11 : ready ≡ true → length v ≡ inputs → (b : ℕ) → b ∈ v → byteLimit ≤ b → Gets ready inputs v VectorByte
+pub data VectorGets (ready : Bool) (inputs : ℕ) (v : List ℕ) : Refusal → Type 0 where
+  gets-12 : ready ≡ false → VectorGets ready inputs v NotReady
+  gets-10 : ready ≡ true → ¬ (length v ≡ inputs) → VectorGets ready inputs v VectorLength
+  gets-11 : ready ≡ true → length v ≡ inputs → (b : ℕ) → b ∈ v → byteLimit ≤ b → VectorGets ready inputs v VectorByte

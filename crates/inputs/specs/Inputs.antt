@@ -5,13 +5,11 @@ use Prim.Native.Nat.{ℕ, zero, suc}
 use lib.Dec.{eqb, ltb}
 use lib.ListN.{length, getD, set, replicate}
 use Rattle.lists.specs.Entries.{every}
-use Rattle.lists.specs.Listed.{listed}
 use Rattle.word.specs.Word.{isOne}
 use Rattle.word.specs.Times.{count}
-use Rattle.rule.specs.declared.Refusal.the-variants.{VectorLength, VectorByte}
-use Rattle.wiring.specs.declared.Verdict.{Verdict}
-use Rattle.wiring.specs.declared.Verdict.the-variants.{Refused, Passed}
-use Rattle.inputs.specs.declared.Inputs.{Inputs}
+use Rattle.rule.specs.declared.Refusal.the-variants.{NotReady, VectorLength, VectorByte}
+use Rattle.card_wiring.specs.declared.Verdict.{Verdict}
+use Rattle.card_wiring.specs.declared.Verdict.the-variants.{Refused, Passed}
 use Rattle.inputs.specs.Allowed.{byteLimit}
 
 abbrev pub isInputKind : ℕ → Bool
@@ -38,9 +36,6 @@ byteFits b = ltb b byteLimit
 unfoldable pub vectorFits : ℕ → List ℕ → Verdict
 vectorFits inputs v = cond (eqb (length v) inputs) (cond (every byteFits v) Passed (Refused VectorByte)) (Refused VectorLength)
 
-abbrev pub valuesRead : Verdict → List ℕ → List ℕ → List Bool
-valuesRead (Refused why) kinds v = replicate 256 false
-valuesRead Passed kinds v = listed (given kinds v) 256
-
-unfoldable pub inputsRead : List ℕ → ℕ → List ℕ → Inputs
-inputsRead kinds inputs v = record { verdict = vectorFits inputs v; values = valuesRead (vectorFits inputs v) kinds v }
+-- "Rest: 12 (card only), 10, 11. Vector by either engine: 12, 10, 11." `ready`: there is a card; for a vector, it is rested
+unfoldable pub vectorJudged : Bool → ℕ → List ℕ → Verdict
+vectorJudged ready inputs v = cond ready (vectorFits inputs v) (Refused NotReady)

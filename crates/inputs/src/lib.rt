@@ -1,19 +1,9 @@
-// A vector read: one byte an input, 0 or 1.
+// The nets that are inputs, and what is asked of a vector: one byte an input, 0 or 1.
 ghost use mathlib.Core.Path.{_≡_};
-ghost use mathlib.Core.Bool.{true, false};
-ghost use Prim.Native.Nat.{_<_};
-ghost use lib.ListN.{length};
 ghost use Rattle.lists.specs.Entries.{every};
-ghost use Rattle.lists.specs.Listed.{listed};
-ghost use Rattle.inputs.specs.Inputs.{byteFits, rank, inputNets, given, inputsRead};
+ghost use Rattle.inputs.specs.Inputs.{byteFits, inputNets, vectorJudged};
+use card_wiring::Verdict;
 use rule::Refusal;
-use wiring::Verdict;
-
-// The inputs' values that a vector gives, net by net, or why it is refused.
-pub struct Inputs {
-    pub verdict: Verdict,
-    pub values: [bool; 256],
-}
 
 // A vector byte is 0 or 1: it is below this.
 const BYTE_LIMIT: u8 = 2;
@@ -49,44 +39,18 @@ pub fn bytes_fit(v: &[u8]) -> bool
     true
 }
 
-// The inputs' values: input j's is byte j.
-fn values_of<'a>(kinds: &'a [u8; 256], v: &'a [u8]) -> [bool; 256]
-    requires { ⌜ length (now v) ≡ rank (now kinds) 256 ⌝ }
-    ensures { λ r. ⌜ r ≡ listed (given (now (kinds .entry)) (now (v .entry))) 256 ⌝ }
+// What every operation that takes a vector asks of it first: 12 where it is not ready, then 10, 11.
+pub fn judge(ready: bool, inputs: usize, v: &[u8]) -> Verdict
+    ensures { λ r. ⌜ r ≡ vectorJudged ready inputs (now (v .entry)) ⌝ }
 {
-    let mut values = [false; 256];
-    let mut j: usize = 0;
-    let mut n: usize = 0;
-    while n < 256 {
-        if kinds[n] == 1 {
-            values[n] = v[j] != 0;
-            j += 1;
-        }
-        n += 1;
+    if !ready {
+        return Verdict::Refused(Refusal::NotReady);
     }
-    values
-}
-
-// A vector read: 10, 11, or the inputs' values.
-pub fn read_inputs<'a>(kinds: &'a [u8; 256], inputs: usize, v: &'a [u8]) -> Inputs
-    requires { ⌜ inputs ≡ rank (now kinds) 256 ⌝ }
-    ensures { λ r. ⌜ r ≡ inputsRead (now (kinds .entry)) inputs (now (v .entry)) ⌝ }
-{
     if v.len() != inputs {
-        return Inputs {
-            verdict: Verdict::Refused(Refusal::VectorLength),
-            values: [false; 256],
-        };
+        return Verdict::Refused(Refusal::VectorLength);
     }
     if !bytes_fit(v) {
-        return Inputs {
-            verdict: Verdict::Refused(Refusal::VectorByte),
-            values: [false; 256],
-        };
+        return Verdict::Refused(Refusal::VectorByte);
     }
-    let values = values_of(kinds, v);
-    Inputs {
-        verdict: Verdict::Passed,
-        values,
-    }
+    Verdict::Passed
 }

@@ -42,6 +42,12 @@ clear-make b at to h =
     every-yes (λ i. eqb (getD b i 0) 0) (from at (to - at))
     (λ i m. let o = out-from at (to - at) i m in eq-eqb (getD b i 0) 0 (h i (o .0) (omega (arith, o .0, o .1))))
 
+-- the same of places that are counted from one on
+pub clear-from : (b : List ℕ) (at n to : ℕ) → ((i : ℕ) → n ≤ i → at + i < to → getD b (at + i) 0 ≡ 0) → clear b (at + n) to ≡ true
+clear-from b at n to h =
+    clear-make b (at + n) to
+    (λ i l u. let e : at + (i - at) ≡ i = omega arith in subst (λ k. getD b k 0 ≡ 0) e (h (i - at) (omega arith) (omega arith)))
+
 -- An area
 
 abbrev inside : ℕ → ℕ → ℕ → Bool
@@ -69,6 +75,10 @@ area-in b at to v i f l u = listed-at _ (length b) i 0 (omega arith) ∙ rw (in-
 pub area-out : (b : List ℕ) (at to : ℕ) (v : List ℕ) (i : ℕ) → (i < at) ⊎ (to ≤ i) → i < length b → getD (area b at to v) i 0 ≡ getD b i 0
 unfolding area
 area-out b at to v i o l = listed-at _ (length b) i 0 l ∙ rw (out-area at to i o)
+
+-- the entry i places after its start
+pub area-from : (b : List ℕ) (at to : ℕ) (v : List ℕ) (i : ℕ) → to ≤ length b → at + i < to → getD (area b at to v) (at + i) 0 ≡ getD v i 0
+area-from b at to v i f u = let e : at + i - at ≡ i = omega arith in area-in b at to v (at + i) f (omega arith) u ∙ ap (λ k. getD v k 0) e
 
 -- nothing of it; one entry more
 pub area-none : (b : List ℕ) (at : ℕ) (v : List ℕ) → b ≡ area b at at v

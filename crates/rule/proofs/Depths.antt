@@ -15,7 +15,7 @@ use Rattle.word.specs.Times.{greatest}
 use Rattle.word.proofs.Sets.{greatest-is}
 use Rattle.rule.specs.Net.{Net, netAt, pins, isSource, Pinned}
 use Rattle.rule.specs.Chain.{pcSet}
-use Rattle.rule.specs.Level.{most, over, delay, gatesBack, level, depth, Looped}
+use Rattle.rule.specs.Level.{most, over, longest, delay, gatesBack, level, depth, Looped}
 use Rattle.rule.proofs.Timing.{short}
 use Rattle.rule.proofs.Levels.{most-in, most-at, longest-none, rises, longest-over, levels-unique}
 use Rattle.rule.proofs.Loops.{some-loop}
@@ -27,14 +27,18 @@ pub level-source : (c : List Net) (n : ℕ) → isSource (netAt c n) ≡ true �
 unfolding level
 level-source c n e = longest-none (pins c) (delay c) (length c + 1) n (source-pins (netAt c n) e)
 
+-- no way back is longer than the longest from the card's nets, whatever the weights
+pub longest-most : (c : List Net) (w : ℕ → ℕ) (k n : ℕ) → longest w (pins c) k n ≤ most (map (longest w (pins c) k) (from 0 (length c)))
+longest-most c w k n = go (decLt n (length c))
+  where
+    go : Dec (n < length c) → longest w (pins c) k n ≤ most (map (longest w (pins c) k) (from 0 (length c)))
+    go (yes l) = most-in (longest w (pins c) k) (from 0 (length c)) n (in-from 0 (length c) n (omega arith) (omega arith))
+    go (no l) = omega (arith, longest-none (pins c) w k n (source-pins (netAt c n) (past-source c n (omega arith))))
+
 -- "The card's depth is its highest level."
 pub level-depth : (c : List Net) (n : ℕ) → level c n ≤ depth c
-unfolding depth
-level-depth c n = go (decLt n (length c))
-  where
-    go : Dec (n < length c) → level c n ≤ most (map (level c) (from 0 (length c)))
-    go (yes l) = most-in (level c) (from 0 (length c)) n (in-from 0 (length c) n (omega arith) (omega arith))
-    go (no l) = omega (arith, level-source c n (past-source c n (omega arith)))
+unfolding level depth
+level-depth c n = longest-most c (delay c) (length c + 1) n
 
 module _ (c : List Net) (free : ¬ Looped c) where
   -- counted backwards no way has more gates than there are nets

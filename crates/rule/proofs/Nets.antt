@@ -1,4 +1,4 @@
--- What a number names on a card: a net, the open pin, or nothing. Assumes nothing.
+-- What a number names on a card: a net, the open pin, or nothing; and what a net is. Assumes nothing.
 use mathlib.Core.Path.{_≡_, refl, sym, ap, _∙_, subst}
 use mathlib.Core.Bool.{Bool, true, false, cond, true≢false, false≢true}
 use mathlib.Core.List.{List, [], List·Memᴰ·not-nil}
@@ -9,7 +9,7 @@ use lib.Dec.{eqb}
 use lib.ListN.{length, getD, List·getD-eq-default}
 use borrow.Author.Tests.{eq-eqb, ne-eqb, eqb-true}
 use Rattle.lists.specs.Entries.{_∈_}
-use Rattle.rule.specs.Net.{Net, input, constant, gate, openPin, openValue, atPin, netAt, pins, pinsOf, isSource}
+use Rattle.rule.specs.Net.{Net, input, constant, gate, openPin, openValue, atPin, netAt, pins, pinsOf, isInput, isSource}
 
 -- The open pin
 
@@ -45,12 +45,39 @@ pub net-here : (c : List Net) (n : ℕ) → n < 65535 → netAt c n ≡ getD c n
 unfolding netAt
 net-here c n l = at-net (constant openValue) (λ m. getD c m (constant false)) n (not-open n l)
 
--- past the card there is no gate
-pub past-source : (c : List Net) (n : ℕ) → length c ≤ n → isSource (netAt c n) ≡ true
+-- "A net is an input, a constant, or the output of one gate."
+pub data NetIs (w : Net) : Type 0 where
+  an-input : w ≡ input → NetIs w
+  a-constant : (k : Bool) → w ≡ constant k → NetIs w
+  a-gate : isSource w ≡ false → NetIs w
+
+pub net-is : (w : Net) → NetIs w
+net-is input = an-input refl
+net-is (constant k) = a-constant k refl
+net-is (gate ty ps) = a-gate refl
+
+pub is-input : (w : Net) → isInput w ≡ true → w ≡ input
+is-input input e = refl
+is-input (constant k) e = absurd (false≢true e)
+is-input (gate ty ps) e = absurd (false≢true e)
+
+pub no-input : (w : Net) → isSource w ≡ false → isInput w ≡ false
+no-input input e = absurd (true≢false e)
+no-input (constant k) e = refl
+no-input (gate ty ps) e = refl
+
+-- past the card there are constants alone
+past-constant : (c : List Net) (n : ℕ) → length c ≤ n → (k : Bool) × (netAt c n ≡ constant k)
 unfolding netAt
-past-source c n l =
-    at-pin-all (λ p w. isSource w ≡ true) (constant openValue) (λ m. getD c m (constant false)) n refl
-    (ap isSource (List·getD-eq-default c (constant false) l))
+past-constant c n l =
+    at-pin-all (λ p w. (k : Bool) × (w ≡ constant k)) (constant openValue) (λ m. getD c m (constant false)) n (openValue, refl)
+    (false, List·getD-eq-default c (constant false) l)
+
+pub past-input : (c : List Net) (n : ℕ) → length c ≤ n → isInput (netAt c n) ≡ false
+past-input c n l = ap isInput (past-constant c n l .1)
+
+pub past-source : (c : List Net) (n : ℕ) → length c ≤ n → isSource (netAt c n) ≡ true
+past-source c n l = ap isSource (past-constant c n l .1)
 
 -- a gate is a net of the card, and not the open pin
 pub gate-listed : (c : List Net) (n : ℕ) → isSource (netAt c n) ≡ false → n < length c

@@ -1,8 +1,8 @@
 -- Rest: on a card whose pins name nets or are open, whose gates have pins and which has no loop, there is one settled state for given
 -- inputs; from any start a net has its settled value from its level on; so every vector starts settled from the last one's end.
 -- Assumes nothing.
-use mathlib.Core.Path.{_≡_, refl, sym, ap, _∙_, subst}
-use mathlib.Core.Bool.{Bool, true, false, true≢false}
+use mathlib.Core.Path.{_≡_, refl, sym, ap, _∙_}
+use mathlib.Core.Bool.{Bool, true, false}
 use mathlib.Core.List.{List, map}
 use mathlib.Core.Logic.{_⊎_, inl, inr}
 use Prim.Native.Nat.{ℕ, zero, suc, _-_, _≤_, _<_}
@@ -10,18 +10,17 @@ use native.Mathlib.Omega.{arith}
 use lib.ListN.{length}
 use Rattle.lists.specs.Entries.{_∈_}
 use Rattle.lists.proofs.Tests.{map-on, map-ext}
-use Rattle.gate.specs.Gate.{gate as gateFn}
-use Rattle.rule.specs.Net.{Net, input, constant, gate, openPin, openValue, atPin, netAt, pins, pinsOf, isSource, Named, Pinned}
-use Rattle.rule.specs.Rule.{first, value, Settled, AtRest, Rest}
+use Rattle.rule.specs.Net.{Net, openPin, openValue, atPin, netAt, pins, isSource, Named, Pinned}
+use Rattle.rule.specs.Rule.{netFn, value, AtRest, Rest}
 use Rattle.rule.specs.Level.{level, Looped}
 use Rattle.rule.proofs.Timing.{Steady, arrives, ends-settled}
-use Rattle.rule.proofs.Nets.{at-open, at-pin-all, net-open, gate-listed}
-use Rattle.rule.proofs.Values.{netFn, constant-is, input-is, open-reads, moves}
+use Rattle.rule.proofs.Nets.{at-open, at-pin-all, net-open}
+use Rattle.rule.proofs.Values.{net-given, source-keeps, constant-is, input-is, open-reads, moves, first-stays, move-first}
 use Rattle.rule.proofs.Depths.{level-up, gate-level}
 
 module _ (c : List Net) (free : ¬ Looped c) (pinned : Pinned c) (before new : ℕ → Bool) where
   abbrev fn : ℕ → List Bool → Bool
-  fn n = netFn (netAt c n) (value c before new n 0)
+  fn n = netFn (netAt c n) (new n)
 
   -- the values alone, whatever came before them: the time 0 twice
   abbrev late : ℕ → ℕ → Bool
@@ -29,16 +28,10 @@ module _ (c : List Net) (free : ¬ Looped c) (pinned : Pinned c) (before new : �
 
   -- they follow the rule from the level on
   late-moves : (n t : ℕ) → level c n ≤ t → late n (suc t) ≡ fn n (map (λ p. late p (t - 0)) (pins c n))
-  unfolding netFn
   late-moves n zero l = go (isSource (netAt c n)) refl
     where
-      own : (w : Net) (x : Bool) (vs : List Bool) → isSource w ≡ true → x ≡ netFn w x vs
-      own input x vs e = refl
-      own (constant k) x vs e = refl
-      own (gate ty ps) x vs e = absurd (true≢false (sym e))
-
       go : (b : Bool) → isSource (netAt c n) ≡ b → late n 1 ≡ fn n (map (λ p. late p (0 - 0)) (pins c n))
-      go true e = own (netAt c n) (value c before new n 0) _ e
+      go true e = source-keeps c before new n 0 _ e
       go false e = absurd (omega (arith, gate-level c free pinned n e))
   late-moves n (suc t) l =
       let x : suc (suc t) - 1 ≡ suc t = omega arith in
@@ -54,14 +47,11 @@ module _ (c : List Net) (free : ¬ Looped c) (pinned : Pinned c) (before new : �
 
     -- from any start all is at rest from the depth on
     pub ends-at-rest : AtRest c (λ n. value c before new n d)
-    unfolding AtRest netFn
-    ends-at-rest n l = go (netAt c n) refl (end-steady n)
-      where
-        go : (w : Net) → netAt c n ≡ w → value c before new n d ≡ netFn w (value c before new n 0) (map (λ p. value c before new p d) (pinsOf w))
-            → Settled w (value c before new n d) (λ m. value c before new m d)
-        go input e h = tt
-        go (constant k) e h = constant-is c before new n d k e
-        go (gate ty ps) e h = h ∙ ap (gateFn ty) (map-ext _ _ ps (λ p. sym (open-reads c before new p d)))
+    unfolding AtRest
+    ends-at-rest n l =
+        end-steady n
+        ∙ net-given (netAt c n) (new n) (value c before new n d) _ (λ e. sym (input-is c before new n d e))
+        ∙ ap (netFn (netAt c n) (value c before new n d)) (map-ext _ _ (pins c n) (λ p. sym (open-reads c before new p d)))
 
     -- a rest exists
     pub rest-exists : Rest c new (λ n. value c before new n d)
@@ -70,37 +60,24 @@ module _ (c : List Net) (free : ¬ Looped c) (pinned : Pinned c) (before new : �
   -- a rest state, with what the pins read: at a source the value that it is given
   module _ (named : Named c) (v : ℕ → Bool) (r : Rest c new v) where
     abbrev full : ℕ → Bool
-    full n = first (netAt c n) (new n) (v n)
+    full n = value c v new n 0
 
     full-is : (n : ℕ) → n < length c → v n ≡ full n
-    unfolding AtRest
-    full-is n l = go (netAt c n) refl
-      where
-        go : (w : Net) → netAt c n ≡ w → v n ≡ first w (new n) (v n)
-        go input e = r .given n l e
-        go (constant k) e = subst (λ w. Settled w (v n) v) e (r .calm n l)
-        go (gate ty ps) e = refl
+    full-is n l = sym (first-stays c v new (r .calm) n l (λ e. sym (r .given n l e)))
 
     reads-full : (n p : ℕ) → p ∈ pins c n → atPin openValue v p ≡ full p
     reads-full n p m = go (named n p m)
       where
         open-full : openValue ≡ full openPin
-        open-full = sym (ap (λ w. first w (new openPin) (v openPin)) (net-open c))
+        open-full = sym (constant-is c v new openPin 0 openValue (net-open c))
 
         go : (p < length c) ⊎ (p ≡ openPin) → atPin openValue v p ≡ full p
         go (inl l) = at-pin-all (λ q x. x ≡ full q) openValue v p open-full (full-is p l)
         go (inr e) = rw e (at-open openValue v ∙ open-full)
 
     full-steady : (n : ℕ) → Steady (pins c) fn full n
-    unfolding Steady netFn value AtRest
-    full-steady n = go (netAt c n) refl
-      where
-        go : (w : Net) → netAt c n ≡ w → first w (new n) (v n) ≡ netFn w (first w (new n) (before n)) (map full (pinsOf w))
-        go input e = refl
-        go (constant k) e = refl
-        go (gate ty ps) e =
-            subst (λ w. Settled w (v n) v) e (r .calm n (gate-listed c n (ap isSource e)))
-            ∙ ap (gateFn ty) (map-on _ _ ps (λ p m. reads-full n p (rw e m)))
+    unfolding Steady
+    full-steady n = move-first c v new (r .calm) n ∙ ap (fn n) (map-on _ _ (pins c n) (reads-full n))
 
     -- "from its level onward it has its settled value", from any start
     pub settles-at-level : (n t : ℕ) → n < length c → level c n ≤ t → value c before new n t ≡ v n

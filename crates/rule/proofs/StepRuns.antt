@@ -1,7 +1,7 @@
 -- The steps of a card, done in any good order: each step, when it is reached, gives the rule's value, and the whole run leaves the
 -- rule's history. From a settled start. Assumes nothing.
 use mathlib.Core.Path.{_≡_, refl, sym, ap, _∙_}
-use mathlib.Core.Bool.{Bool, true, false, true≢false}
+use mathlib.Core.Bool.{Bool, true, false}
 use mathlib.Core.List.{List, _∷_, _++_, map, map-map}
 use mathlib.Core.Logic.{_⊎_, inl, inr, ⊎-elim}
 use Prim.Native.Nat.{ℕ, zero, suc, _<_}
@@ -15,14 +15,13 @@ use Rattle.lists.proofs.Bools.{and-both, and-make}
 use Rattle.lists.proofs.Tests.{map-ext, out-map}
 use Rattle.word.specs.Times.{greatest, noTime, zeroIn}
 use Rattle.word.proofs.Sets.{zero-lt, zero-in}
-use Rattle.gate.specs.Gate.{gate as gateFn}
-use Rattle.rule.specs.Net.{Net, input, constant, gate, netAt, pins, isSource}
-use Rattle.rule.specs.Rule.{value, AtRest}
+use Rattle.rule.specs.Net.{Net, netAt, pins}
+use Rattle.rule.specs.Rule.{netFn, value, AtRest}
 use Rattle.rule.specs.Chain.{pcSet}
 use Rattle.rule.specs.Run.{made, run, ready}
 use Rattle.rule.specs.Steps.{Step, sameStep, IsStep, readAt, stepReads, stepFn, GoodOrder}
 use Rattle.rule.proofs.Chains.{set-of-gate, gate-set}
-use Rattle.rule.proofs.Values.{read-is}
+use Rattle.rule.proofs.Values.{gate-given, read-is}
 use Rattle.rule.proofs.Runs.{ready-of-pairs, ready-take, take-in, reached-right, run-right}
 
 -- Names of variables
@@ -89,18 +88,19 @@ module _ (c : List Net) where
     -- a step's function of the proper values that it reads is its own
     pub step-meets : (k : Step) → IsStep c k → proper k ≡ stepFn c k (map proper (stepReads c k))
     unfolding stepReads readAt stepFn value
-    step-meets k s = go (k .time) (step-time k s) (netAt c (k .net)) refl (s .gated)
+    step-meets k s = go (k .time) (step-time k s)
       where
+        w : Net
+        w = netAt c (k .net)
+
         pin : (t p : ℕ) → value c before new p t ≡ proper (readAt c (suc t) p)
         pin t p = sym (read-is c before new calm p t)
 
-        go : (t : ℕ) → 0 < t → (w : Net) → netAt c (k .net) ≡ w → isSource w ≡ false
-            → value c before new (k .net) t ≡ stepFn c (record { net = k .net; time = t }) (map proper (map (readAt c t) (pins c (k .net))))
-        go zero l w e q = absurd (omega arith)
-        go (suc t) l input e q = absurd (true≢false q)
-        go (suc t) l (constant b) e q = absurd (true≢false q)
-        go (suc t) l (gate ty ps) e q =
-            rw e (ap (gateFn ty) (map-ext _ _ ps (pin t) ∙ sym (map-map proper (readAt c (suc t)) ps)))
+        go : (t : ℕ) → 0 < t → value c before new (k .net) t ≡ netFn w false (map proper (map (readAt c t) (pins c (k .net))))
+        go zero l = absurd (omega arith)
+        go (suc t) l =
+            gate-given w (new (k .net)) false _ (s .gated)
+            ∙ ap (netFn w false) (map-ext _ _ (pins c (k .net)) (pin t) ∙ sym (map-map proper (readAt c (suc t)) (pins c (k .net))))
 
     -- from variables that hold the values at time 0
     module _ (s : Step → Bool) (start : (k : Step) → ahead k ≡ true → s k ≡ proper k) (ks : List Step) (good : GoodOrder c ks) where

@@ -1,34 +1,43 @@
 -- The unit-delay rule from a settled start, as timed nets: when a net can change, and what a step reads. Assumes nothing.
-use mathlib.Core.Path.{_≡_, refl, sym, ap, _∙_, subst}
+use mathlib.Core.Path.{_≡_, refl, sym, ap, _∙_}
 use mathlib.Core.Bool.{Bool, true, false, true≢false, false≢true}
-use mathlib.Core.List.{List, map}
-use Prim.Native.Nat.{ℕ, zero, suc}
+use mathlib.Core.List.{List, [], map}
+use Prim.Native.Nat.{ℕ, zero, suc, _<_}
 use native.Mathlib.Nat.{sub-zero}
+use lib.ListN.{length}
 use Rattle.lists.specs.Entries.{_∈_}
 use Rattle.lists.proofs.Bools.{not-both}
 use Rattle.lists.proofs.Tests.{map-on}
 use Rattle.word.specs.Word.{differ, movedUp}
 use Rattle.word.specs.Times.{greatest, noTime, zeroIn}
 use Rattle.word.proofs.Sets.{greatest-zero, greatest-zero-any}
-use Rattle.gate.specs.Gate.{gate as gateFn}
-use Rattle.rule.specs.Net.{Net, input, constant, gate, openPin, openValue, atPin, netAt, pins, pinsOf, isSource}
-use Rattle.rule.specs.Rule.{first, next, value, Settled, AtRest}
+use Rattle.rule.specs.Net.{Net, input, constant, gate, openPin, openValue, atPin, netAt, pins, isSource}
+use Rattle.rule.specs.Rule.{netFn, first, value, AtRest}
 use Rattle.rule.specs.Chain.{Chain, pcSet}
 use Rattle.rule.specs.Flag.{changedAt}
 use Rattle.rule.proofs.Timing.{Steady, Timed, steady, held}
 use Rattle.rule.proofs.Nets.{at-net, net-open, at-pin-all, gate-listed, gate-not-open}
 use Rattle.rule.proofs.Chains.{chain-of-set, set-reach}
 
--- a net's function of its pins' values: an input and a constant have no pins, and keep x
-unfoldable pub netFn : Net → Bool → List Bool → Bool
-netFn input x vs = x
-netFn (constant k) x vs = x
-netFn (gate ty ps) x vs = gateFn ty vs
+-- what an input is given matters to it alone
+pub net-given : (w : Net) (x y : Bool) (vs : List Bool) → (w ≡ input → x ≡ y) → netFn w x vs ≡ netFn w y vs
+net-given input x y vs h = h refl
+net-given (constant k) x y vs h = refl
+net-given (gate ty ps) x y vs h = refl
 
-next-source : (w : Net) (v : Bool) (at : ℕ → Bool) → isSource w ≡ true → next w v at ≡ v
-next-source input v at e = refl
-next-source (constant k) v at e = refl
-next-source (gate ty ps) v at e = absurd (false≢true e)
+pub gate-given : (w : Net) (x y : Bool) (vs : List Bool) → isSource w ≡ false → netFn w x vs ≡ netFn w y vs
+gate-given w x y vs e = net-given w x y vs (λ q. absurd (true≢false (ap isSource (sym q) ∙ e)))
+
+-- at time 0 an input and a constant have their own value, whatever stands for their pins, and a gate has its before value
+first-source : (w : Net) (new before : Bool) (vs : List Bool) → isSource w ≡ true → first w new before ≡ netFn w new vs
+first-source input new before vs e = refl
+first-source (constant k) new before vs e = refl
+first-source (gate ty ps) new before vs e = absurd (false≢true e)
+
+first-gate : (w : Net) (new before : Bool) → isSource w ≡ false → first w new before ≡ before
+first-gate input new before e = absurd (true≢false e)
+first-gate (constant k) new before e = absurd (true≢false e)
+first-gate (gate ty ps) new before e = refl
 
 -- The values in a set of nets that holds the pins of its gates depend on that set alone: on the new values of its inputs and the before
 -- values of its gates
@@ -37,60 +46,46 @@ module _ (c : List Net) (In : ℕ → Type 0) (holds : (n p : ℕ) → In n → 
       → ((n : ℕ) → In n → netAt c n ≡ input → new n ≡ new′ n)
       → (n t : ℕ) → In n → value c before new n t ≡ value c before′ new′ n t
   unfolding value
-  value-same before before′ new new′ hb hn n zero i = go (netAt c n) refl
+  value-same before before′ new new′ hb hn n zero i = go (isSource (netAt c n)) refl
     where
-      go : (w : Net) → netAt c n ≡ w → first w (new n) (before n) ≡ first w (new′ n) (before′ n)
-      go input e = hn n i e
-      go (constant k) e = refl
-      go (gate ty ps) e = hb n i (ap isSource e)
-  value-same before before′ new new′ hb hn n (suc t) i = go (netAt c n) refl (λ m j. value-same before before′ new new′ hb hn m t j)
-    where
-      go : (w : Net) → netAt c n ≡ w → ((m : ℕ) → In m → value c before new m t ≡ value c before′ new′ m t)
-          → next w (value c before new n t) (λ p. value c before new p t) ≡ next w (value c before′ new′ n t) (λ p. value c before′ new′ p t)
-      go input e ih = ih n i
-      go (constant k) e ih = ih n i
-      go (gate ty ps) e ih = ap (gateFn ty) (map-on _ _ ps (λ p m. ih p (holds n p i (subst (λ w. p ∈ pinsOf w) (sym e) m))))
+      w : Net
+      w = netAt c n
+
+      go : (b : Bool) → isSource w ≡ b → first w (new n) (before n) ≡ first w (new′ n) (before′ n)
+      go true e = first-source w _ _ [] e ∙ net-given w (new n) (new′ n) [] (hn n i) ∙ sym (first-source w _ _ [] e)
+      go false e = first-gate w _ _ e ∙ hb n i e ∙ sym (first-gate w _ _ e)
+  value-same before before′ new new′ hb hn n (suc t) i =
+      net-given (netAt c n) (new n) (new′ n) _ (hn n i)
+      ∙ ap (netFn (netAt c n) (new′ n)) (map-on _ _ (pins c n) (λ p m. value-same before before′ new new′ hb hn p t (holds n p i m)))
 
 module _ (c : List Net) (before new : ℕ → Bool) where
   abbrev v : ℕ → ℕ → Bool
   v = value c before new
 
   -- inputs and constants don't move
-  pub source-keeps : (n t : ℕ) → isSource (netAt c n) ≡ true → v n t ≡ v n 0
+  pub source-keeps : (n t : ℕ) (vs : List Bool) → isSource (netAt c n) ≡ true → v n t ≡ netFn (netAt c n) (new n) vs
   unfolding value
-  source-keeps n zero e = refl
-  source-keeps n (suc t) e = next-source (netAt c n) _ _ e ∙ source-keeps n t e
+  source-keeps n zero vs e = first-source (netAt c n) (new n) (before n) vs e
+  source-keeps n (suc t) vs e = sym (first-source (netAt c n) (new n) (before n) _ e) ∙ first-source (netAt c n) (new n) (before n) vs e
 
   pub constant-is : (n t : ℕ) (k : Bool) → netAt c n ≡ constant k → v n t ≡ k
-  unfolding value
-  constant-is n t k e = source-keeps n t (ap isSource e) ∙ ap (λ w. first w (new n) (before n)) e
+  constant-is n t k e = source-keeps n t [] (ap isSource e) ∙ ap (λ w. netFn w (new n) []) e
 
   pub input-is : (n t : ℕ) → netAt c n ≡ input → v n t ≡ new n
-  unfolding value
-  input-is n t e = source-keeps n t (ap isSource e) ∙ ap (λ w. first w (new n) (before n)) e
+  input-is n t e = source-keeps n t [] (ap isSource e) ∙ ap (λ w. netFn w (new n) []) e
 
   pub gate-starts : (n : ℕ) → isSource (netAt c n) ≡ false → v n 0 ≡ before n
   unfolding value
-  gate-starts n e = go (netAt c n) e
-    where
-      go : (w : Net) → isSource w ≡ false → first w (new n) (before n) ≡ before n
-      go input q = absurd (true≢false q)
-      go (constant k) q = absurd (true≢false q)
-      go (gate ty ps) q = refl
+  gate-starts n e = first-gate (netAt c n) (new n) (before n) e
 
   -- what an open pin reads is what the rule gives it
   pub open-reads : (p t : ℕ) → atPin openValue (λ m. v m t) p ≡ v p t
   open-reads p t = at-pin-all (λ q x. x ≡ v q t) openValue (λ m. v m t) p (sym (constant-is openPin t openValue (net-open c))) refl
 
   -- one unit later, as a function of the pins
-  pub moves : (n t : ℕ) → v n (suc t) ≡ netFn (netAt c n) (v n 0) (map (λ p. v p t) (pins c n))
-  unfolding value netFn
-  moves n t = go (netAt c n) refl
-    where
-      go : (w : Net) → netAt c n ≡ w → v n (suc t) ≡ netFn w (v n 0) (map (λ p. v p t) (pinsOf w))
-      go input e = source-keeps n (suc t) (ap isSource e)
-      go (constant k) e = source-keeps n (suc t) (ap isSource e)
-      go (gate ty ps) e = ap (λ w. next w (v n t) (λ p. v p t)) e
+  pub moves : (n t : ℕ) → v n (suc t) ≡ netFn (netAt c n) (new n) (map (λ p. v p t) (pins c n))
+  unfolding value
+  moves n t = refl
 
   -- before values at 0, then the values
   unfoldable pub waveAt : ℕ → ℕ → Bool
@@ -98,30 +93,32 @@ module _ (c : List Net) (before new : ℕ → Bool) where
   waveAt n (suc t) = v n t
 
   module _ (calm : AtRest c before) where
-    rest-fn : (n : ℕ) (w : Net) → netAt c n ≡ w → isSource w ≡ false → before n ≡ netFn w (v n 0) (map (atPin openValue before) (pinsOf w))
-    unfolding AtRest netFn
-    rest-fn n input e q = absurd (true≢false q)
-    rest-fn n (constant k) e q = absurd (true≢false q)
-    rest-fn n (gate ty ps) e q = subst (λ w. Settled w (before n) before) e (calm n (gate-listed c n (ap isSource e)))
+    rest-fn : (n : ℕ) → isSource (netAt c n) ≡ false → before n ≡ netFn (netAt c n) (new n) (map (atPin openValue before) (pins c n))
+    unfolding AtRest
+    rest-fn n e = calm n (gate-listed c n e) ∙ gate-given (netAt c n) (before n) (new n) _ e
 
-    move-first : (n : ℕ) → v n 0 ≡ netFn (netAt c n) (v n 0) (map (atPin openValue before) (pins c n))
-    unfolding netFn
-    move-first n = go (netAt c n) refl
+    -- and time 0 from the before values
+    pub move-first : (n : ℕ) → v n 0 ≡ netFn (netAt c n) (new n) (map (atPin openValue before) (pins c n))
+    move-first n = go (isSource (netAt c n)) refl
       where
-        go : (w : Net) → netAt c n ≡ w → v n 0 ≡ netFn w (v n 0) (map (atPin openValue before) (pinsOf w))
-        go input e = refl
-        go (constant k) e = refl
-        go (gate ty ps) e = gate-starts n (ap isSource e) ∙ rest-fn n (gate ty ps) e refl
+        go : (b : Bool) → isSource (netAt c n) ≡ b → v n 0 ≡ netFn (netAt c n) (new n) (map (atPin openValue before) (pins c n))
+        go true e = source-keeps n 0 _ e
+        go false e = gate-starts n e ∙ rest-fn n e
 
-    pub timed : Timed (pins c) (λ n. 0) (λ n. netFn (netAt c n) (v n 0)) waveAt (pcSet c)
+    -- every net still has its before value then, but an input that is given another
+    pub first-stays : (n : ℕ) → n < length c → (netAt c n ≡ input → new n ≡ before n) → v n 0 ≡ before n
+    unfolding AtRest
+    first-stays n l h = move-first n ∙ net-given (netAt c n) (new n) (before n) _ h ∙ sym (calm n l)
+
+    pub timed : Timed (pins c) (λ n. 0) (λ n. netFn (netAt c n) (new n)) waveAt (pcSet c)
     unfolding waveAt Steady pcSet
     timed = record {
       move = λ n t. rw sub-zero (go n t);
-      rest = λ n e. at-net openValue before n (gate-not-open c n e) ∙ rest-fn n (netAt c n) refl e;
+      rest = λ n e. at-net openValue before n (gate-not-open c n e) ∙ rest-fn n e;
       reach = set-reach c;
     }
       where
-        go : (n t : ℕ) → v n t ≡ netFn (netAt c n) (v n 0) (map (λ p. waveAt p t) (pins c n))
+        go : (n t : ℕ) → v n t ≡ netFn (netAt c n) (new n) (map (λ p. waveAt p t) (pins c n))
         go n zero = move-first n
         go n (suc t) = moves n t
 

@@ -41,6 +41,11 @@ pinsOf (gate ty ps) = ps
 abbrev pub pins : List Net → ℕ → List ℕ
 pins c n = pinsOf (netAt c n)
 
+abbrev pub isInput : Net → Bool
+isInput input = true
+isInput (constant k) = false
+isInput (gate ty ps) = false
+
 -- an input or a constant
 abbrev pub isSource : Net → Bool
 isSource input = true

@@ -8,8 +8,8 @@ use lib.Dec.{eqb}
 use lib.ListN.{length, getD}
 use Rattle.lists.specs.Entries.{_∈_, each, when, from, Sorted, Distinct}
 use Rattle.word.specs.Times.{greatest, noTime, zeroIn}
-use Rattle.gate.specs.Gate.{gate as gateFn}
-use Rattle.rule.specs.Net.{Net, input, constant, gate, netAt, pins, isSource}
+use Rattle.rule.specs.Net.{Net, netAt, pins, isSource}
+use Rattle.rule.specs.Rule.{netFn}
 use Rattle.rule.specs.Chain.{Chain, pcSet}
 use Rattle.rule.specs.Level.{level, depth}
 
@@ -39,14 +39,9 @@ readAt c t p = record { net = p; time = greatest (zeroIn (pcSet c p)) t noTime }
 unfoldable pub stepReads : List Net → Step → List Step
 stepReads c k = map (readAt c (k .time)) (pins c (k .net))
 
--- a step's gate function; an input and a constant have none
+-- a step's gate function; an input, which has no steps, would be given 0
 unfoldable pub stepFn : List Net → Step → List Bool → Bool
-stepFn c k vs = gateOf (netAt c (k .net)) vs
-  where
-    gateOf : Net → List Bool → Bool
-    gateOf input vs = false
-    gateOf (constant b) vs = b
-    gateOf (gate ty ps) vs = gateFn ty vs
+stepFn c k vs = netFn (netAt c (k .net)) false vs
 
 -- "any order that has each step once and no step before one whose value it reads" (demand 3)
 pub record GoodOrder (c : List Net) (ks : List Step) : Type 0 where

@@ -1,7 +1,6 @@
--- What a session that holds a card has for the loops over its arrays: the gates in their order, its inputs, the values of a vector, and a
--- pass along the gates. Assumes nothing.
-use mathlib.Core.Path.{_≡_, refl, sym, ap, ap₂, _∙_, subst}
-use mathlib.Core.Bool.{Bool, true, false, cond, true≢false}
+-- What a session that holds a card has for the loops over its arrays: the gates in their order, its inputs, and a pass along the gates. Assumes nothing.
+use mathlib.Core.Path.{_≡_, sym, ap, ap₂, _∙_, subst}
+use mathlib.Core.Bool.{Bool, true, false, cond}
 use mathlib.Core.List.{List}
 use Prim.Native.Nat.{ℕ, _≤_, _<_}
 use native.Mathlib.Omega.{arith}
@@ -10,33 +9,35 @@ use lib.Dec.{eqb}
 use lib.ListN.{length, getD}
 use Rattle.lists.specs.Entries.{_∈_, Distinct}
 use Rattle.lists.specs.Listed.{listed}
-use Rattle.lists.proofs.Listed.{length-listed, listed-at, listed-past, in-listed}
+use Rattle.lists.proofs.Listed.{length-listed, listed-at, in-listed}
 use Rattle.lists.proofs.Order.{sorted-at}
 use Rattle.word.specs.Times.{count}
 use Rattle.word.specs.Word.{isOne, bit, wordOf}
 use Rattle.word.proofs.Words.{one-val}
 use Rattle.word.proofs.Sets.{count-cong}
-use Rattle.rule.specs.Net.{Net, input, constant, gate, netAt, pins, pinsOf, isSource}
+use Rattle.rule.specs.Net.{Net, constant, netAt, pins, isInput, isSource}
 use Rattle.rule.specs.Rule.{value}
 use Rattle.rule.specs.Steps.{gateOrder}
 use Rattle.rule.proofs.Nets.{not-open, gate-listed}
 use Rattle.rule.proofs.GateOrders.{out-order, order-once}
-use Rattle.wiring.specs.Layout.{Fits, kindOf, typeOf, kindsOf, typesOf}
-use Rattle.wiring.proofs.Layouts.{count-at, kind-at, kind-past, type-at}
-use Rattle.inputs.specs.Inputs.{isInputKind, rank, inputNets, given}
-use Rattle.inputs.proofs.Vectors.{given-other}
-use Rattle.fields.specs.Fields.{Gates, topsOf, passed, advanced, startAt, constantAt}
+use Rattle.card_wiring.specs.Layout.{kindOf, typeOf, kindsOf, typesOf}
+use Rattle.card_wiring.specs.Inner.Wires.{Fits}
+use Rattle.card_wiring.proofs.Layouts.{count-at, kind-at, kind-past, type-at}
+use Rattle.inputs.specs.Inputs.{isInputKind, rank, given}
+use Rattle.inputs.proofs.Vectors.{rank-le}
+use Rattle.inputs.proofs.Nets.{nets-low}
+use Rattle.fields.specs.Inner.Fields.{Gates, topsOf, passed, netsPut, byteWord, advanced, constantAt}
 use Rattle.fields.proofs.Fields.{inputsPut, nets-put}
-use Rattle.records.proofs.Heads.{type-single}
+use Rattle.card_records.proofs.Heads.{type-single}
 use Rattle.card.specs.declared.Session.{Session}
-use Rattle.card.specs.Session.{cardOf, isInput}
+use Rattle.card.specs.Session.{cardOf}
 use Rattle.card.specs.Held.{HasCard}
 use Rattle.card.proofs.Reading.{inputs-laid, inputs-all-counted}
-use Rattle.card.proofs.Kept.{inputs-are, kinds-are, types-are, counts-are, places-are, card-fits, order-back, order-fits}
+use Rattle.card.proofs.Kept.{inputs-are, kinds-are, types-are, counts-are, places-are, feeds-are, card-fits, order-back, order-fits}
 use Rattle.session.specs.Good.{histories}
 use Rattle.session.specs.Moves.{givenTo}
 use Rattle.session.proofs.States.{net-past}
-use Rattle.session.proofs.Histories.{pass-histories, flat-still, flat-ends, put-still, put-ends}
+use Rattle.session.proofs.Histories.{pass-histories, put-still, put-ends}
 
 -- a pass over the same arrays
 same-pass : (start : List ℕ) {types types′ counts counts′ places places′ order order′ : List ℕ} → types ≡ types′ → counts ≡ counts′ → places ≡ places′ → order ≡ order′
@@ -49,14 +50,6 @@ module _ (s : Session) (h : HasCard s) where
 
   -- The gates
 
-  gate-has : (g : ℕ) → isSource (netAt c g) ≡ false → (typeOf (netAt c g) < 8) × (0 < length (pins c g)) × (typeOf (netAt c g) < 2 → length (pins c g) ≡ 1)
-  gate-has g e = go (netAt c g) refl e
-    where
-      go : (w : Net) → netAt c g ≡ w → isSource w ≡ false → (typeOf w < 8) × (0 < length (pinsOf w)) × (typeOf w < 2 → length (pinsOf w) ≡ 1)
-      go input q x = absurd (true≢false x)
-      go (constant k) q x = absurd (true≢false x)
-      go (gate ty ps) q x = let r = card-fits s h .gates g ty ps q in (r .0, r .1, λ l. type-single ty (length ps) (r .3) l)
-
   -- a gate's type, and what the arrays have of it
   pub gate-type : (g : ℕ) → isSource (netAt c g) ≡ false → getD (s .types) g 0 ≡ typeOf (netAt c g)
   gate-type g e = ap (λ xs. getD xs g 0) (types-are s h) ∙ type-at c (card-fits s h .fits) g (gate-listed c g e)
@@ -68,8 +61,13 @@ module _ (s : Session) (h : HasCard s) where
       let below : g < 256 = omega (arith, gate-listed c g e) in
       let type = gate-type g e in
       let size : getD (s .counts) g 0 ≡ length (pins c g) = ap (λ xs. getD xs g 0) (counts-are s h) ∙ count-at c fits g below in
-      let has = gate-has g e in
-      record { net = below; type = omega (arith, type, has .0); pinned = omega (arith, size, has .1); single = λ l. size ∙ has .2 (omega (arith, type)) }
+      let known = card-fits s h .gates g e in
+      record {
+        net = below;
+        type = omega (arith, type, known .0);
+        pinned = omega (arith, size, known .1);
+        single = λ l. size ∙ type-single (typeOf (netAt c g)) (length (pins c g)) (known .3) (omega (arith, type));
+      }
 
   -- no gate stands twice in the order
   pub gates-once : (i j : ℕ) → i < j → j < s .gates → ¬ (getD (s .order) i 0 ≡ getD (s .order) j 0)
@@ -91,19 +89,14 @@ module _ (s : Session) (h : HasCard s) where
   inputs-ranked =
       inputs-are s h ∙ sym (inputs-all-counted c (card-fits s h .fits)) ∙ ap (λ ks. count (λ m. eqb (getD ks m 0) 1) 256) (sym (kinds-are s h))
 
-  -- the values of a vector, in their array
-  pub given-listed : (v : List ℕ) (n : ℕ) → getD (listed (given (s .kinds) v) 256) n false ≡ given (s .kinds) v n
-  given-listed v n = go (decLt n 256)
-    where
-      go : Dec (n < 256) → getD (listed (given (s .kinds) v) 256) n false ≡ given (s .kinds) v n
-      go (yes l) = listed-at (given (s .kinds) v) 256 n false l
-      go (no l) =
-          let fits = card-fits s h .fits in
-          let few = fits .few in
-          let none : getD (s .kinds) n 0 ≡ 0 = ap (λ xs. getD xs n 0) (kinds-are s h) ∙ kind-past c fits n (omega arith) in
-          listed-past (given (s .kinds) v) 256 n false (omega arith) ∙ given-other (s .kinds) v n (λ e. omega (arith, none))
+  -- the nets that are inputs are places of the arrays
+  pub feeds-fit : (v : List ℕ) → length v ≡ s .inputs → (length v ≤ 256) × ((j : ℕ) → getD (s .feeds) j 0 < 256)
+  feeds-fit v size = (
+    omega (arith, size, inputs-ranked, rank-le (s .kinds) 256),
+    λ j. subst (λ xs. getD xs j 0 < 256) (sym (feeds-are s h)) (nets-low (s .kinds) 256 j (omega arith)),
+  )
 
-  -- they are the card's: input j has byte j
+  -- the values that a vector gives are the card's: input j has byte j
   pub given-card : (v : List ℕ) (n : ℕ) → given (s .kinds) v n ≡ givenTo c v n
   unfolding given givenTo rank
   given-card v n =
@@ -120,28 +113,16 @@ module _ (s : Session) (h : HasCard s) where
     gates-pass start long still ends =
         same-pass start (types-are s h) (counts-are s h) (places-are s h) (order-back s h) ∙ pass-histories c (card-fits s h) (h .accepted .free) old new start long still ends
 
-    -- from the inputs' new values and the before values, where each constant has its value
-    pub session-pass : (values before : List Bool) (start words : List ℕ) → ((n : ℕ) (k : Bool) → n < 256 → netAt c n ≡ constant k → old n ≡ k)
-        → ((n : ℕ) → getD values n false ≡ new n) → before ≡ listed old 256 → start ≡ listed (startAt (s .kinds) values before) 256
-        → words ≡ passed (topsOf start) (s .types) (s .counts) (s .places) start (listed (λ i. getD (s .order) i 0) (s .gates))
-        → words ≡ histories c old new
-    session-pass values before start words fixed same eb es ew =
-        let flat = listed (startAt (kindsOf c) values (listed old 256)) 256 in
-        let e : start ≡ flat = es ∙ ap₂ (λ ks bs. listed (startAt ks values bs) 256) (kinds-are s h) eb in
-        let fits = card-fits s h .fits in
-        ew ∙ ap (λ xs. passed (topsOf xs) (s .types) (s .counts) (s .places) xs (listed (λ i. getD (s .order) i 0) (s .gates))) e
-        ∙ gates-pass flat (length-listed _ 256) (flat-still c old new fits values same fixed) (flat-ends c old new fits values same)
-
-    -- from the last vector's words, where each constant has its value
-    pub advance-pass : (v words : List ℕ) → length v ≡ rank (s .kinds) 256 → length words ≡ 256 → ((n : ℕ) (k : Bool) → n < 256 → netAt c n ≡ constant k → getD words n 0 ≡ wordOf 64 (λ t. k))
+    -- from any words that end in the before values, where each constant has its value
+    pub advance-pass : (v words : List ℕ) → length v ≡ s .inputs → length words ≡ 256 → ((n : ℕ) (k : Bool) → n < 256 → netAt c n ≡ constant k → getD words n 0 ≡ wordOf 64 (λ t. k))
         → ((n : ℕ) → given (s .kinds) v n ≡ new n) → ((n : ℕ) → n < 256 → bit (getD words n 0) 63 ≡ old n)
-        → advanced (inputNets (s .kinds) 256) (s .types) (s .counts) (s .places) (listed (λ i. getD (s .order) i 0) (s .gates)) words v ≡ histories c old new
+        → advanced (s .feeds) (s .types) (s .counts) (s .places) (listed (λ i. getD (s .order) i 0) (s .gates)) words v ≡ histories c old new
     unfolding inputsPut
     advance-pass v words size long fixed same ends =
         let fits = card-fits s h .fits in
         let same′ : (n : ℕ) → given (kindsOf c) v n ≡ new n = λ n. ap (λ ks. given ks v n) (sym (kinds-are s h)) ∙ same n in
         ap (λ ws. passed (topsOf ws) (s .types) (s .counts) (s .places) ws (listed (λ i. getD (s .order) i 0) (s .gates)))
-        (nets-put (s .kinds) v words long size ∙ ap (λ ks. inputsPut ks v words) (kinds-are s h))
+        (ap (λ fs. netsPut fs (byteWord v) (length v) words) (feeds-are s h) ∙ nets-put (s .kinds) v words long (size ∙ inputs-ranked) ∙ ap (λ ks. inputsPut ks v words) (kinds-are s h))
         ∙ gates-pass (inputsPut (kindsOf c) v words) (length-listed _ 256) (put-still c old new fits v words same′ fixed)
         (λ n l e. put-ends c old new fits v words same′ n l e ∙ ends n l)
 
@@ -150,14 +131,12 @@ module _ (s : Session) (h : HasCard s) where
   constant-held n k l e =
       ap₂ (λ ks ts. constantAt (getD ks n 0) (getD ts n 0)) (kinds-are s h) (types-are s h) ∙ go (decLt n (length c))
     where
-      constantOf : Net → Bool
-      constantOf input = false
-      constantOf (constant b) = b
-      constantOf (gate ty ps) = false
-
       fits : Fits c
       fits = card-fits s h .fits
 
       go : Dec (n < length c) → constantAt (getD (kindsOf c) n 0) (getD (typesOf c) n 0) ≡ k
       go (yes b) = ap₂ constantAt (kind-at c fits n b ∙ ap kindOf e) (type-at c fits n b ∙ ap typeOf e) ∙ one-val k
-      go (no b) = ap (λ x. constantAt x (getD (typesOf c) n 0)) (kind-past c fits n (omega arith)) ∙ ap constantOf (sym (net-past c n (omega arith) (not-open n (omega arith))) ∙ e)
+      go (no b) =
+          let past = net-past c n (omega arith) (not-open n (omega arith)) in
+          let none : false ≡ k = cc in
+          ap (λ x. constantAt x (getD (typesOf c) n 0)) (kind-past c fits n (omega arith)) ∙ none

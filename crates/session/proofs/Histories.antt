@@ -1,6 +1,6 @@
 -- A pass along the gates' order leaves the rule's histories, from any before values in which each constant has its value. Assumes nothing.
 use mathlib.Core.Path.{_≡_, refl, sym, ap, ap₂, _∙_}
-use mathlib.Core.Bool.{Bool, true, false, cond, true≢false, false≢true}
+use mathlib.Core.Bool.{Bool, true, false, cond}
 use mathlib.Core.List.{List, map, map-map}
 use mathlib.Core.Logic.{_⊎_, inl, inr}
 use Prim.Native.Nat.{ℕ, zero, suc, _<_}
@@ -11,28 +11,29 @@ use lib.ListN.{length, getD, List·getD-eq-default}
 use borrow.Author.Tests.{eq-eqb, eqb-true}
 use Rattle.lists.specs.Entries.{_∈_}
 use Rattle.lists.specs.Listed.{listed}
+use Rattle.lists.proofs.Bools.{not-both}
 use Rattle.lists.proofs.Tests.{map-ext}
 use Rattle.lists.proofs.Listed.{listed-at, listed-ext}
 use Rattle.word.specs.Word.{bit, wordOf, movedUp}
 use Rattle.word.proofs.Bits.{bit-none}
 use Rattle.word.proofs.Words.{bit-word, is-word, word-ext}
 use Rattle.gate.specs.Gate.{gate as gateFn}
-use Rattle.rule.specs.Net.{Net, input, constant, gate, openPin, openValue, netAt, pins, isSource}
+use Rattle.rule.specs.Net.{Net, constant, openPin, openValue, netAt, pins, isInput, isSource}
 use Rattle.rule.specs.Level.{Looped}
-use Rattle.rule.specs.Rule.{first, value}
+use Rattle.rule.specs.Rule.{value}
 use Rattle.rule.specs.Run.{run}
 use Rattle.rule.specs.Steps.{gateOrder}
-use Rattle.rule.proofs.Nets.{at-open, at-net, net-open}
+use Rattle.rule.proofs.Nets.{at-open, at-net, net-open, NetIs, an-input, a-constant, a-gate, net-is, no-input}
 use Rattle.rule.proofs.Runs.{run-right}
-use Rattle.rule.proofs.Values.{netFn, source-keeps, constant-is, gate-starts, moves}
+use Rattle.rule.proofs.Values.{constant-is, input-is, gate-starts, moves}
 use Rattle.rule.proofs.GateOrders.{out-order, in-order, order-ready}
-use Rattle.wiring.specs.Layout.{Fits, pinsAt, typeOf, kindsOf, typesOf, countsOf, placesOf}
-use Rattle.wiring.proofs.Layouts.{pins-laid, type-at}
+use Rattle.card_wiring.specs.Layout.{pinsAt, kindsOf, typesOf, countsOf, placesOf}
+use Rattle.card_wiring.specs.Inner.Wires.{Fits}
+use Rattle.card_wiring.proofs.Layouts.{gate-fn, pins-laid, type-at}
 use Rattle.inputs.specs.Inputs.{isInputKind, given}
-use Rattle.fields.specs.Fields.{fieldOf, fieldAt, pinWord, topsOf, passed, startAt}
+use Rattle.fields.specs.Inner.Fields.{fieldOf, fieldAt, pinWord, topsOf, passed}
 use Rattle.fields.proofs.Fields.{inputsPut}
-use Rattle.records.proofs.Fitted.{Fitted}
-use Rattle.card.specs.Session.{isInput}
+use Rattle.card_records.proofs.Fitted.{Fitted}
 use Rattle.card.proofs.Reading.{inputs-laid}
 use Rattle.session.specs.Good.{histories}
 use Rattle.session.proofs.States.{past-zero}
@@ -40,24 +41,6 @@ use Rattle.session.proofs.States.{past-zero}
 -- the word that is 0 at every time
 pub zero-word : 0 ≡ wordOf 64 (λ t. false)
 zero-word = is-word 64 (λ t. false) 0 (lit< tt) (λ t l. bit-none t)
-
--- a gate's function is that of its type
-gate-fn : (w : Net) (x : Bool) (vs : List Bool) → isSource w ≡ false → netFn w x vs ≡ gateFn (typeOf w) vs
-unfolding netFn
-gate-fn input x vs e = absurd (true≢false e)
-gate-fn (constant k) x vs e = absurd (true≢false e)
-gate-fn (gate ty ps) x vs e = refl
-
-no-input : (w : Net) → isSource w ≡ false → isInput w ≡ false
-no-input input e = absurd (true≢false e)
-no-input (constant k) e = refl
-no-input (gate ty ps) e = refl
-
--- what does not move: an input has its new value, a constant its own
-source-first : (w : Net) (new before : Bool) → isSource w ≡ true → ((k : Bool) → w ≡ constant k → before ≡ k) → cond (isInput w) new before ≡ first w new before
-source-first input new before e h = refl
-source-first (constant k) new before e h = h k refl
-source-first (gate ty ps) new before e h = absurd (false≢true e)
 
 -- a pass along the gates' order leaves every net's proper word, where each gate's is what it makes of its pins' proper words, and what does not move has its own from the start
 pub along-right : (c : List Net) → Fitted c → ¬ Looped c → (fn : ℕ → List ℕ → ℕ) (start word : ℕ → ℕ)
@@ -100,7 +83,7 @@ module _ (c : List Net) (fit : Fitted c) (free : ¬ Looped c) (before new : ℕ 
           gate-starts c before new n e ∙ sym (listed-at (λ n. bit (getD start n 0) 63) 256 n false here ∙ ends n here e)
       at (suc t) b =
           moves c before new n t
-          ∙ gate-fn (netAt c n) (value c before new n 0) (map (λ p. value c before new p t) (pins c n)) e
+          ∙ gate-fn (netAt c n) (new n) (map (λ p. value c before new p t) (pins c n)) e
           ∙ ap (λ ty. gateFn ty (map (λ p. value c before new p t) (pins c n))) (sym (type-at c (fit .fits) n l))
           ∙ ap (gateFn (getD (typesOf c) n 0)) (map-ext _ (λ p. bit (word p) t) (pins c n) (λ p. sym (bit-word 64 (value c before new p) t (omega arith))) ∙ sym (map-map (λ w. bit w t) word (pins c n)))
 
@@ -126,36 +109,8 @@ module _ (c : List Net) (fit : Fitted c) (free : ¬ Looped c) (before new : ℕ 
 -- Words to start from
 
 module _ (c : List Net) (before new : ℕ → Bool) where
-  -- an input, a constant and what is past the card do not move
-  source-word : (n : ℕ) → isSource (netAt c n) ≡ true → wordOf 64 (λ t. first (netAt c n) (new n) (before n)) ≡ wordOf 64 (value c before new n)
-  unfolding value
-  source-word n e = word-ext 64 (λ t. first (netAt c n) (new n) (before n)) (value c before new n) (λ t l. sym (source-keeps c before new n t e))
-
   module _ (fits : Fits c) where
-    -- the inputs' new values and the before values of all else, at every time
-    module _ (values : List Bool) (same : (n : ℕ) → getD values n false ≡ new n) where
-      abbrev flat : List ℕ
-      flat = listed (startAt (kindsOf c) values (listed before 256)) 256
-
-      flat-at : (n : ℕ) → n < 256 → getD flat n 0 ≡ wordOf 64 (λ t. cond (isInput (netAt c n)) (new n) (before n))
-      unfolding startAt
-      flat-at n l =
-          listed-at (startAt (kindsOf c) values (listed before 256)) 256 n 0 l
-          ∙ word-ext 64 _ _
-          (λ t b. ap (λ x. cond x (getD values n false) (getD (listed before 256) n false)) (inputs-laid c fits n)
-          ∙ ap₂ (cond (isInput (netAt c n))) (same n) (listed-at before 256 n false l))
-
-      pub flat-still : ((n : ℕ) (k : Bool) → n < 256 → netAt c n ≡ constant k → before n ≡ k) → (n : ℕ) → n < 256 → isSource (netAt c n) ≡ true
-          → getD flat n 0 ≡ wordOf 64 (value c before new n)
-      flat-still fixed n l e =
-          flat-at n l ∙ word-ext 64 _ (λ t. first (netAt c n) (new n) (before n)) (λ t b. source-first (netAt c n) (new n) (before n) e (λ k q. fixed n k l q)) ∙ source-word n e
-
-      pub flat-ends : (n : ℕ) → n < 256 → isSource (netAt c n) ≡ false → bit (getD flat n 0) 63 ≡ before n
-      flat-ends n l e =
-          ap (λ w. bit w 63) (flat-at n l) ∙ bit-word 64 (λ t. cond (isInput (netAt c n)) (new n) (before n)) 63 (lit< tt)
-          ∙ ap (λ x. cond x (new n) (before n)) (no-input (netAt c n) e)
-
-    -- the last vector's words, with the inputs' new values put
+    -- any words, with the inputs' new values put
     module _ (v words : List ℕ) (same : (n : ℕ) → given (kindsOf c) v n ≡ new n) where
       put-at : (n : ℕ) → n < 256 → getD (inputsPut (kindsOf c) v words) n 0 ≡ cond (isInput (netAt c n)) (wordOf 64 (λ t. new n)) (getD words n 0)
       unfolding inputsPut
@@ -165,12 +120,12 @@ module _ (c : List Net) (before new : ℕ → Bool) where
 
       pub put-still : ((n : ℕ) (k : Bool) → n < 256 → netAt c n ≡ constant k → getD words n 0 ≡ wordOf 64 (λ t. k)) → (n : ℕ) → n < 256 → isSource (netAt c n) ≡ true
           → getD (inputsPut (kindsOf c) v words) n 0 ≡ wordOf 64 (value c before new n)
-      put-still fixed n l e = put-at n l ∙ go (netAt c n) refl e ∙ source-word n e
+      put-still fixed n l e = put-at n l ∙ go (net-is (netAt c n))
         where
-          go : (w : Net) → netAt c n ≡ w → isSource w ≡ true → cond (isInput w) (wordOf 64 (λ t. new n)) (getD words n 0) ≡ wordOf 64 (λ t. first w (new n) (before n))
-          go input q x = refl
-          go (constant k) q x = fixed n k l q
-          go (gate ty ps) q x = absurd (false≢true x)
+          go : NetIs (netAt c n) → cond (isInput (netAt c n)) (wordOf 64 (λ t. new n)) (getD words n 0) ≡ wordOf 64 (value c before new n)
+          go (an-input q) = rw q (word-ext 64 (λ t. new n) (value c before new n) (λ t b. sym (input-is c before new n t q)))
+          go (a-constant k q) = rw q (fixed n k l q ∙ word-ext 64 (λ t. k) (value c before new n) (λ t b. sym (constant-is c before new n t k q)))
+          go (a-gate s) = absurd (not-both (isSource (netAt c n)) e s)
 
       pub put-ends : (n : ℕ) → n < 256 → isSource (netAt c n) ≡ false → bit (getD (inputsPut (kindsOf c) v words) n 0) 63 ≡ bit (getD words n 0) 63
       put-ends n l e = ap (λ w. bit w 63) (put-at n l ∙ ap (λ x. cond x (wordOf 64 (λ t. new n)) (getD words n 0)) (no-input (netAt c n) e))

@@ -8,7 +8,7 @@ use Rattle.lists.specs.Listed.{listed}
 use Rattle.rule.specs.Net.{Net}
 use Rattle.rule.specs.declared.Answer.the-variants.{Done}
 use Rattle.inputs.specs.Inputs.{given}
-use Rattle.records.specs.Written.{Bytes}
+use Rattle.card_records.specs.Written.{Bytes}
 use Rattle.card.specs.declared.Session.{Session}
 use Rattle.card.specs.declared.Loaded.{Loaded}
 use Rattle.card.specs.Session.{none, sessionOf, cardOf, resting}

@@ -14,8 +14,8 @@ use Rattle.rule.specs.Net.{Net, constant, netAt}
 use Rattle.rule.specs.Rule.{value, AtRest}
 use Rattle.rule.proofs.Values.{constant-is}
 use Rattle.rule.proofs.Rests.{ends-at-rest}
-use Rattle.inputs.specs.Inputs.{rank, inputNets, given}
-use Rattle.fields.specs.Fields.{topsOf, passed, advanced, startAt}
+use Rattle.inputs.specs.Inputs.{given}
+use Rattle.fields.specs.Inner.Fields.{topsOf, advanced}
 use Rattle.card.specs.declared.Session.{Session}
 use Rattle.card.specs.Session.{cardOf, wordAt, resting}
 use Rattle.card.specs.Held.{HasCard}
@@ -23,7 +23,7 @@ use Rattle.card.proofs.Kept.{card-fits, card-level}
 use Rattle.session.specs.Good.{histories, Rested}
 use Rattle.session.specs.Moves.{ends, movedBy}
 use Rattle.session.proofs.States.{rest-same}
-use Rattle.session.proofs.Held.{session-pass, advance-pass}
+use Rattle.session.proofs.Held.{advance-pass}
 
 -- a net's word in the histories
 pub history-at : (c : List Net) (before new : ℕ → Bool) (n t : ℕ) → n < 256 → t < 64 → bit (getD (histories c before new) n 0) t ≡ value c before new n t
@@ -49,21 +49,24 @@ module _ (s : Session) (h : HasCard s) (r : Rested s) where
   pub constant-ends : (n : ℕ) (k : Bool) → n < 256 → netAt c n ≡ constant k → ends s n ≡ k
   constant-ends n k l e = ends-are n l ∙ constant-is c (r .old) (r .new) n 63 k e
 
-  -- the before values, and the fields along the gates, are what a vector leaves
-  pub fields-move : (values b : List Bool) (start words : List ℕ) → b ≡ topsOf (s .words) → start ≡ listed (startAt (s .kinds) values b) 256
-      → words ≡ passed (topsOf start) (s .types) (s .counts) (s .places) start (listed (λ i. getD (s .order) i 0) (s .gates))
-      → resting s (s .rested) b words ≡ movedBy s (λ n. getD values n false)
-  unfolding movedBy ends
-  fields-move values b start words eb es ew =
-      ap₂ (resting s (s .rested)) eb (session-pass s h (ends s) (λ n. getD values n false) values b start words constant-ends (λ n. refl) eb es ew)
+  pub words-long : length (s .words) ≡ 256
+  unfolding histories
+  words-long = ap length (r .words-are) ∙ length-listed _ 256
 
-  -- and so are the fields along the gates from the last vector's words
-  pub words-move : (v : List ℕ) → length v ≡ rank (s .kinds) 256 → advanced (inputNets (s .kinds) 256) (s .types) (s .counts) (s .places) (listed (λ i. getD (s .order) i 0) (s .gates)) (s .words) v
-      ≡ movedBy s (given (s .kinds) v) .words
+  -- the fields along the gates from the last vector's words are what a vector leaves
+  pub words-move : (v : List ℕ) → length v ≡ s .inputs
+      → advanced (s .feeds) (s .types) (s .counts) (s .places) (listed (λ i. getD (s .order) i 0) (s .gates)) (s .words) v ≡ movedBy s (given (s .kinds) v) .words
   unfolding movedBy ends histories
-  words-move v size = advance-pass s h (ends s) (given (s .kinds) v) v (s .words) size (ap length (r .words-are) ∙ length-listed _ 256) constant-word (λ n. refl) (λ n l. refl)
+  words-move v size = advance-pass s h (ends s) (given (s .kinds) v) v (s .words) size words-long constant-word (λ n. refl) (λ n l. refl)
     where
       constant-word : (n : ℕ) (k : Bool) → n < 256 → netAt c n ≡ constant k → wordAt s n ≡ wordOf 64 (λ t. k)
       constant-word n k l e =
           ap (λ ws. getD ws n 0) (r .words-are) ∙ listed-at (λ m. wordOf 64 (value c (r .old) (r .new) m)) 256 n 0 l
           ∙ word-ext 64 (value c (r .old) (r .new) n) (λ t. k) (λ t b. constant-is c (r .old) (r .new) n t k e)
+
+  -- and so they are with the before values
+  pub fields-move : (v : List ℕ) → length v ≡ s .inputs → (b : List Bool) (words : List ℕ) → b ≡ topsOf (s .words)
+      → words ≡ advanced (s .feeds) (s .types) (s .counts) (s .places) (listed (λ i. getD (s .order) i 0) (s .gates)) (s .words) v
+      → resting s (s .rested) b words ≡ movedBy s (given (s .kinds) v)
+  unfolding movedBy ends
+  fields-move v size b words eb ew = ap₂ (resting s (s .rested)) eb (ew ∙ words-move v size)

@@ -8,14 +8,15 @@ use native.Mathlib.Decide.{decLt}
 use lib.Dec.{lit<}
 use lib.ListN.{length, getD}
 use Rattle.lists.specs.Listed.{listed}
-use Rattle.lists.proofs.Listed.{listed-at, listed-ext}
+use Rattle.lists.proofs.Listed.{length-listed, listed-at, listed-ext}
 use Rattle.word.specs.Word.{bit, wordOf}
-use Rattle.word.proofs.Words.{word-ext}
+use Rattle.word.proofs.Words.{bit-word, word-ext}
 use Rattle.rule.specs.Net.{Net}
 use Rattle.rule.specs.Rule.{value, Rest}
 use Rattle.rule.proofs.Nets.{not-open}
 use Rattle.rule.proofs.Rests.{rest-exists, settles-at-level}
-use Rattle.fields.specs.Fields.{topsOf, passed, startAt, constantAt}
+use Rattle.inputs.specs.Inputs.{given}
+use Rattle.fields.specs.Inner.Fields.{topsOf, advanced, constantAt}
 use Rattle.card.specs.declared.Session.{Session}
 use Rattle.card.specs.Session.{cardOf, resting}
 use Rattle.card.specs.Held.{HasCard}
@@ -23,7 +24,7 @@ use Rattle.card.proofs.Kept.{card-fits, card-level}
 use Rattle.session.specs.Good.{histories}
 use Rattle.session.specs.Moves.{settled, restedBy}
 use Rattle.session.proofs.States.{past-zero, rest-stays}
-use Rattle.session.proofs.Held.{session-pass, constant-held}
+use Rattle.session.proofs.Held.{advance-pass, constant-held}
 use Rattle.session.proofs.Moving.{history-at}
 
 module _ (s : Session) (h : HasCard s) where
@@ -63,22 +64,30 @@ module _ (s : Session) (h : HasCard s) where
         (λ n l. word-ext 64 (λ t. settled c new n) (value c (settled c new) new n) (λ t b. sym (settled-flat n t l)))
 
   -- the fields along the gates, from the constants, end in what a rest leaves
-  pub fields-settle : (values constants before : List Bool) (start words flat : List ℕ)
-      → constants ≡ listed (λ n. constantAt (getD (s .kinds) n 0) (getD (s .types) n 0)) 256 → start ≡ listed (startAt (s .kinds) values constants) 256
-      → words ≡ passed (topsOf start) (s .types) (s .counts) (s .places) start (listed (λ i. getD (s .order) i 0) (s .gates))
+  pub fields-settle : (v : List ℕ) → length v ≡ s .inputs → (constants before : List Bool) (start words flat : List ℕ)
+      → constants ≡ listed (λ n. constantAt (getD (s .kinds) n 0) (getD (s .types) n 0)) 256 → start ≡ listed (λ n. wordOf 64 (λ t. getD constants n false)) 256
+      → words ≡ advanced (s .feeds) (s .types) (s .counts) (s .places) (listed (λ i. getD (s .order) i 0) (s .gates)) start v
       → before ≡ topsOf words → flat ≡ listed (λ n. wordOf 64 (λ t. getD before n false)) 256
-      → resting s true before flat ≡ restedBy s (λ n. getD values n false)
+      → resting s true before flat ≡ restedBy s (given (s .kinds) v)
   unfolding restedBy
-  fields-settle values constants before start words flat ec es ew eb ef = ap₂ (resting s true) settled-before settled-words
+  fields-settle v size constants before start words flat ec es ew eb ef = ap₂ (resting s true) settled-before settled-words
     where
       new : ℕ → Bool
-      new n = getD values n false
+      new = given (s .kinds) v
 
       old : ℕ → Bool
       old n = constantAt (getD (s .kinds) n 0) (getD (s .types) n 0)
 
+      -- ahead of the pass every net's word is its constant's value
+      starts : (n : ℕ) → n < 256 → getD start n 0 ≡ wordOf 64 (λ t. old n)
+      starts n l =
+          ap (λ xs. getD xs n 0) es ∙ listed-at (λ m. wordOf 64 (λ t. getD constants m false)) 256 n 0 l
+          ∙ ap (λ b. wordOf 64 (λ t. b)) (ap (λ xs. getD xs n false) ec ∙ listed-at old 256 n false l)
+
       left : words ≡ histories c old new
-      left = session-pass s h old new values constants start words (constant-held s h) (λ n. refl) ec es ew
+      left =
+          ew ∙ advance-pass s h old new v start size (ap length es ∙ length-listed _ 256) (λ n k l e. starts n l ∙ ap (λ b. wordOf 64 (λ t. b)) (constant-held s h n k l e)) (λ n. refl)
+          (λ n l. ap (λ w. bit w 63) (starts n l) ∙ bit-word 64 (λ t. old n) 63 (lit< tt))
 
       settled-before : before ≡ listed (settled c new) 256
       settled-before =

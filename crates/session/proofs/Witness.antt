@@ -16,17 +16,18 @@ use Rattle.rule.specs.Chain.{pcSet}
 use Rattle.rule.specs.Level.{longest, level, depth}
 use Rattle.rule.specs.Steps.{gateOrder, netSteps, stepList}
 use Rattle.rule.specs.declared.Answer.the-variants.{Done}
-use Rattle.wiring.specs.declared.Verdict.the-variants.{Passed}
-use Rattle.wiring.specs.Wired.{pinsFit, mostBack, wiredOf}
+use Rattle.card_wiring.specs.declared.Verdict.the-variants.{Passed}
+use Rattle.card_wiring.specs.Wired.{pinsFit, mostBack, wiredOf}
 use Rattle.inputs.specs.Inputs.{given}
-use Rattle.records.specs.Written.{Bytes}
-use Rattle.records.proofs.Example.{exampleBytes, exampleCard, example-read}
+use Rattle.inputs.proofs.Verdicts.{fits-vector}
+use Rattle.card_records.specs.Written.{Bytes}
+use Rattle.card_records.proofs.Example.{exampleBytes, exampleCard, example-read}
 use Rattle.card.specs.declared.Session.{Session}
 use Rattle.card.specs.Session.{none, inputsOf, sessionOf}
 use Rattle.card.specs.Load.{concluded, judged, loadMeant, loadOf, taken}
 use Rattle.session.specs.Good.{Good}
 use Rattle.session.specs.Moves.{movedBy, vectorOf, restedBy, restOf}
-use Rattle.session.proofs.Refusals.{fits-vector, rest-takes, vector-takes}
+use Rattle.session.proofs.Refusals.{rest-takes, vector-takes}
 use Rattle.session.proofs.Kept.{none-good, load-good, rest-good, vector-good}
 
 bytes-below : (s : List ℕ) → every (λ b. ltb b 256) s ≡ true → Bytes s
@@ -77,18 +78,18 @@ example-vector = vector-takes exampleRested (1 ∷ 1 ∷ 0 ∷ []) (card-rested 
 
 -- the predicate is met by the session that a real card leaves: loaded, at rest, and after a vector
 
-pub loaded-good : Good exampleLoaded × (exampleLoaded .loaded ≡ true) × (exampleLoaded .gates ≡ 2)
+pub witness-loaded : Good exampleLoaded × (exampleLoaded .loaded ≡ true) × (exampleLoaded .gates ≡ 2)
 unfolding exampleLoaded
-loaded-good = (load-good none exampleBytes none-good (bytes-below exampleBytes refl), card-loaded .0, card-loaded .2)
+witness-loaded = (load-good none exampleBytes none-good (bytes-below exampleBytes refl), card-loaded .0, card-loaded .2)
 
-pub rested-good : Good exampleRested × (exampleRested .rested ≡ true) × (exampleRested .gates ≡ 2)
+pub witness-rested : Good exampleRested × (exampleRested .rested ≡ true) × (exampleRested .gates ≡ 2)
 unfolding exampleRested
-rested-good = (rest-good exampleLoaded (loaded-good .0) (0 ∷ 1 ∷ 1 ∷ []), card-rested .0, card-rested .2)
+witness-rested = (rest-good exampleLoaded (witness-loaded .0) (0 ∷ 1 ∷ 1 ∷ []), card-rested .0, card-rested .2)
 
-pub witness : Good exampleMoved × (exampleMoved .rested ≡ true) × (exampleMoved .gates ≡ 2)
+pub witness-moved : Good exampleMoved × (exampleMoved .rested ≡ true) × (exampleMoved .gates ≡ 2)
 unfolding exampleMoved movedBy
-witness = (
-  vector-good exampleRested (rested-good .0) (1 ∷ 1 ∷ 0 ∷ []),
+witness-moved = (
+  vector-good exampleRested (witness-rested .0) (1 ∷ 1 ∷ 0 ∷ []),
   ap (λ x. x .session .rested) example-vector ∙ card-rested .0,
   ap (λ x. x .session .gates) example-vector ∙ card-rested .2,
 )

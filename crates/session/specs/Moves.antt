@@ -6,16 +6,15 @@ use lib.ListN.{getD}
 use Rattle.lists.specs.Listed.{listed}
 use Rattle.word.specs.Word.{bit, wordOf, isOne}
 use Rattle.word.specs.Times.{count}
-use Rattle.rule.specs.Net.{Net, netAt}
+use Rattle.rule.specs.Net.{Net, netAt, isInput}
 use Rattle.rule.specs.Rule.{value}
 use Rattle.rule.specs.declared.Refusal.{Refusal}
-use Rattle.rule.specs.declared.Refusal.the-variants.{NotReady}
 use Rattle.rule.specs.declared.Answer.the-variants.{Done, Refused}
-use Rattle.wiring.specs.declared.Verdict.{Verdict}
-use Rattle.wiring.specs.declared.Verdict.the-variants.{Refused as Faulty, Passed}
-use Rattle.inputs.specs.Inputs.{given, vectorFits}
+use Rattle.card_wiring.specs.declared.Verdict.{Verdict}
+use Rattle.card_wiring.specs.declared.Verdict.the-variants.{Refused as Faulty, Passed}
+use Rattle.inputs.specs.Inputs.{given, vectorJudged}
 use Rattle.card.specs.declared.Session.{Session}
-use Rattle.card.specs.Session.{cardOf, wordAt, resting, isInput}
+use Rattle.card.specs.Session.{cardOf, wordAt, resting}
 use Rattle.session.specs.declared.Moved.{Moved}
 use Rattle.session.specs.Good.{histories}
 
@@ -41,7 +40,7 @@ movedBy s new = resting s (s .rested) (listed (ends s) 256) (histories (cardOf s
 
 -- "Vector by either engine: 12, 10, 11."
 unfoldable pub vectorOf : Session → List ℕ → Moved
-vectorOf s v = cond (s .rested) (moving s (vectorFits (s .inputs) v) 0 (movedBy s (given (s .kinds) v))) (refusedMove s NotReady)
+vectorOf s v = moving s (vectorJudged (s .rested) (s .inputs) v) 0 (movedBy s (given (s .kinds) v))
 
 -- the settled value of every net: what it has at time 63, from zeros; any other start gives the same (`rest-only`)
 unfoldable pub settled : List Net → (ℕ → Bool) → ℕ → Bool
@@ -53,4 +52,4 @@ restedBy s new = resting s true (listed (settled (cardOf s) new) 256) (listed (�
 
 -- "Rest: 12 (card only), 10, 11."
 unfoldable pub restOf : Session → List ℕ → Moved
-restOf s v = cond (s .loaded) (moving s (vectorFits (s .inputs) v) 0 (restedBy s (given (s .kinds) v))) (refusedMove s NotReady)
+restOf s v = moving s (vectorJudged (s .loaded) (s .inputs) v) 0 (restedBy s (given (s .kinds) v))

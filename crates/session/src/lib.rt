@@ -1,14 +1,15 @@
 // A card at rest, and a vector by fields.
 ghost use mathlib.Core.Path.{_≡_};
-ghost use mathlib.Core.Bool.{true, false};
-ghost use lib.ListN.{getD};
+ghost use mathlib.Core.Bool.{true};
+ghost use lib.ListN.{length};
+ghost use Rattle.inputs.specs.Inputs.{given};
 ghost use Rattle.card.specs.Session.{resting};
 ghost use Rattle.session.specs.Good.{Good};
 ghost use Rattle.session.specs.Moves.{refusedMove, movedBy, vectorOf, restedBy, restOf};
 use card::Session;
+use card_wiring::Verdict;
 use rule::Answer;
 use rule::Refusal;
-use wiring::Verdict;
 
 // What an operation that moves a session hands back.
 pub struct Moved {
@@ -36,42 +37,46 @@ pub fn with_words(s: Session, rested: bool, before: [bool; 256], words: [u64; 25
     next
 }
 
-// A vector run by fields, from the inputs' values: the last values at 63 are the before values.
-pub fn run_fields(s: Session, values: &[bool; 256]) -> Session
+// A vector that fits, run by fields: the last values at 63 are the before values.
+fn run_fields(s: Session, v: &[u8]) -> Session
     requires { ⌜ Good s ⌝ }
-    requires { ⌜ s .rested ≡ true ⌝ }
-    ensures { λ r. ⌜ r ≡ movedBy s (λ n. getD (now (values .entry)) n false) ⌝ }
+    requires { ⌜ (s .rested ≡ true) × (length (now v) ≡ s .inputs) ⌝ }
+    ensures { λ r. ⌜ r ≡ movedBy s (given (s .kinds) (now (v .entry))) ⌝ }
 {
     let before = fields::tops(&s.words);
-    let mut words = fields::start(&s.kinds, values, &before);
-    fields::pass(
+    let mut words = s.words;
+    fields::advance(
         &mut words,
+        &s.feeds,
         &s.types,
         &s.counts,
         &s.places,
         s.nets,
         &s.order,
         s.gates,
+        v,
     );
     with_words(s, s.rested, before, words)
 }
 
-// Every net at its settled value for the inputs' values.
-fn settle(s: Session, values: &[bool; 256]) -> Session
+// Every net at its settled value for a vector that fits, from the constants put over cleared words.
+fn settle(s: Session, v: &[u8]) -> Session
     requires { ⌜ Good s ⌝ }
-    requires { ⌜ s .loaded ≡ true ⌝ }
-    ensures { λ r. ⌜ r ≡ restedBy s (λ n. getD (now (values .entry)) n false) ⌝ }
+    requires { ⌜ (s .loaded ≡ true) × (length (now v) ≡ s .inputs) ⌝ }
+    ensures { λ r. ⌜ r ≡ restedBy s (given (s .kinds) (now (v .entry))) ⌝ }
 {
     let constants = fields::constants_of(&s.kinds, &s.types);
-    let mut words = fields::start(&s.kinds, values, &constants);
-    fields::pass(
+    let mut words = fields::flats(&constants);
+    fields::advance(
         &mut words,
+        &s.feeds,
         &s.types,
         &s.counts,
         &s.places,
         s.nets,
         &s.order,
         s.gates,
+        v,
     );
     let before = fields::tops(&words);
     let flat = fields::flats(&before);
@@ -83,15 +88,11 @@ pub fn rest(s: Session, v: &[u8]) -> Moved
     requires { ⌜ Good s ⌝ }
     ensures { λ r. ⌜ r ≡ restOf s (now (v .entry)) ⌝ }
 {
-    if !s.loaded {
-        return refused(s, Refusal::NotReady);
-    }
-    let read = inputs::read_inputs(&s.kinds, s.inputs, v);
-    let verdict = read.verdict;
+    let verdict = inputs::judge(s.loaded, s.inputs, v);
     match verdict {
         Verdict::Refused(why) => refused(s, why),
         Verdict::Passed => {
-            let next = settle(s, &read.values);
+            let next = settle(s, v);
             Moved {
                 answer: Answer::Done(0),
                 session: next,
@@ -105,15 +106,11 @@ pub fn vector(s: Session, v: &[u8]) -> Moved
     requires { ⌜ Good s ⌝ }
     ensures { λ r. ⌜ r ≡ vectorOf s (now (v .entry)) ⌝ }
 {
-    if !s.rested {
-        return refused(s, Refusal::NotReady);
-    }
-    let read = inputs::read_inputs(&s.kinds, s.inputs, v);
-    let verdict = read.verdict;
+    let verdict = inputs::judge(s.rested, s.inputs, v);
     match verdict {
         Verdict::Refused(why) => refused(s, why),
         Verdict::Passed => {
-            let next = run_fields(s, &read.values);
+            let next = run_fields(s, v);
             Moved {
                 answer: Answer::Done(0),
                 session: next,

@@ -19,7 +19,7 @@ use Rattle.rule.specs.declared.Refusal.the-variants.{NoRoom}
 use Rattle.rule.specs.declared.Answer.{Answer}
 use Rattle.rule.specs.declared.Answer.the-variants.{Done, Refused}
 use Rattle.rule.proofs.Numbers.{number-low}
-use Rattle.records.specs.Written.{Bytes}
+use Rattle.card_records.specs.Written.{Bytes}
 use Rattle.card.specs.declared.Session.{Session}
 use Rattle.card.specs.declared.Loaded.{Loaded}
 use Rattle.card.specs.Session.{none, cardOf, beforeAt}
@@ -39,7 +39,7 @@ use Rattle.sheet_text.specs.declared.Sheet.{Sheet}
 use Rattle.sheet_text.specs.declared.Piece.{Piece}
 use Rattle.sheet_text.specs.Lines.{blank, lf, depthWord, stepsWord, vectorWord, refusedLine, firstLine, historyLine, cardText, vectorText}
 use Rattle.sheet_text.specs.Walk.{cardEnd, entryAt, body}
-use Rattle.sheet_text.specs.Pieces.{Portion, refusal, pieceUnless, loadedPiece, cardPiece, entryPiece, pieceAt, pieceOf, Written, written, Standing}
+use Rattle.sheet_text.specs.Inner.Pieces.{Portion, refusedPiece, pieceUnless, loadedPiece, cardPiece, entryPiece, pieceAt, pieceOf, Written, written, Standing}
 use Rattle.sheet_text.proofs.Lengths.{byte-short, word-short, line-short}
 use Rattle.sheet_text.proofs.Steps.{bytes-front}
 use Rattle.sheet_text.proofs.Standing.{Placed, entry-placed, piece-stands}
@@ -111,7 +111,7 @@ module _ (file : List ℕ) (bytes : Bytes file) (size : length file < 2 ^ 64) wh
       loaded : Loaded
       loaded = loadOf none (take (cardEnd file) file)
 
-      card : (b : Bool) → length (cond b (refusal sheet NoRoom) (loadedPiece sheet (cardEnd file) loaded) .text) ≤ 20480
+      card : (b : Bool) → length (cond b (refusedPiece sheet NoRoom) (loadedPiece sheet (cardEnd file) loaded) .text) ≤ 20480
       card true = refused-short NoRoom
       card false =
           unless-short (loaded .answer) sheet _

@@ -10,7 +10,8 @@ use Rattle.lists.specs.Listed.{listed}
 use Rattle.lists.proofs.Joined.{from-more, each-append}
 use Rattle.lists.proofs.Listed.{length-listed, listed-more}
 use Rattle.word.specs.Word.{bit, val}
-use Rattle.text.specs.Text.{digit, decimal, numbered, Put}
+use Rattle.text.specs.Text.{digit, decimal, numbered}
+use Rattle.text.specs.Inner.Put.{Put}
 use Rattle.text.proofs.Texts.{put-then, put-same, decimal-short}
 use Rattle.sheet_text.specs.Lines.{blank, lf, values, netLine}
 

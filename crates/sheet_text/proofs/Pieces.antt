@@ -11,7 +11,7 @@ use Rattle.rule.specs.declared.Refusal.{Refusal}
 use Rattle.rule.specs.declared.Refusal.the-variants.{NoRoom}
 use Rattle.rule.specs.declared.Answer.{Answer}
 use Rattle.rule.specs.declared.Answer.the-variants.{Done, Refused}
-use Rattle.records.specs.Written.{Bytes}
+use Rattle.card_records.specs.Written.{Bytes}
 use Rattle.card.specs.declared.Session.{Session}
 use Rattle.card.specs.declared.Loaded.{Loaded}
 use Rattle.card.specs.Session.{none, cardOf}
@@ -25,7 +25,7 @@ use Rattle.sheet_text.specs.declared.Sheet.{Sheet}
 use Rattle.sheet_text.specs.Lines.{cardText, vectorText}
 use Rattle.sheet_text.specs.Walk.{cardEnd, entryAt, body}
 use Rattle.sheet_text.specs.Sheet.{unlessRefused, entryText, recordsText, loadedText, sheetOf}
-use Rattle.sheet_text.specs.Pieces.{fresh, ended, Portion, refusal, pieceUnless, loadedPiece, cardPiece, entryPiece, pieceAt, pieceOf, written, texts, wrote, afterPieces, Standing}
+use Rattle.sheet_text.specs.Inner.Pieces.{fresh, ended, Portion, refusedPiece, pieceUnless, loadedPiece, cardPiece, entryPiece, pieceAt, pieceOf, written, texts, wrote, afterPieces, Standing}
 use Rattle.sheet_text.proofs.Left.{leftAt, left}
 use Rattle.sheet_text.proofs.Standing.{Placed, entry-placed, entry-past, fresh-stands, piece-stands, piece-falls}
 use Rattle.sheet_text.proofs.Fits.{piece-fits, piece-read, page-stays, sheet-after}
@@ -42,8 +42,8 @@ module _ (file : List ℕ) where
   abbrev said : ℕ → Portion → List ℕ
   said n p = p .text ++ texts n (p .after) file
 
-  refused-ends : (n : ℕ) (sheet : Sheet) (why : Refusal) → said n (refusal sheet why) ≡ refusal sheet why .text
-  refused-ends n sheet why = ap (λ xs. refusal sheet why .text ++ xs) (over-silent n (ended sheet) refl) ∙ append-nil (refusal sheet why .text)
+  refused-ends : (n : ℕ) (sheet : Sheet) (why : Refusal) → said n (refusedPiece sheet why) ≡ refusedPiece sheet why .text
+  refused-ends n sheet why = ap (λ xs. refusedPiece sheet why .text ++ xs) (over-silent n (ended sheet) refl) ∙ append-nil (refusedPiece sheet why .text)
 
   answered : (n : ℕ) (a : Answer) (sheet : Sheet) (p : Portion) (text : List ℕ) → said n p ≡ text
       → said n (pieceUnless a sheet p) ≡ unlessRefused a text
@@ -94,8 +94,8 @@ module _ (file : List ℕ) where
       loaded = loadOf none (take (cardEnd file) file)
 
       go : (b : Bool)
-          → said n (cond b (refusal fresh NoRoom) (loadedPiece fresh (cardEnd file) loaded))
-          ≡ cond b (refusal fresh NoRoom .text) (loadedText file loaded)
+          → said n (cond b (refusedPiece fresh NoRoom) (loadedPiece fresh (cardEnd file) loaded))
+          ≡ cond b (refusedPiece fresh NoRoom .text) (loadedText file loaded)
       go true = refused-ends n fresh NoRoom
       go false =
           answered n (loaded .answer) fresh _ _

@@ -6,14 +6,15 @@ use Prim.Native.Nat.{ℕ, _+_, _/_, _%_, _≤_}
 use native.Mathlib.Omega.{arith}
 use lib.ListN.{length, getD, take, drop, length-append, length-drop}
 use lib.Seq.{getD-drop, drop-drop, drop-append-seam, take-append-seam}
-use borrow.Author.Tests.{le-ltb}
+use borrow.Author.Tests.{ne-eqb, le-ltb}
 use Rattle.lists.specs.Entries.{each}
-use Rattle.rule.specs.Net.{Net, input, constant, gate}
+use Rattle.rule.specs.Net.{Net}
 use Rattle.rule.specs.Level.{depth}
 use Rattle.rule.specs.Steps.{stepList}
-use Rattle.wiring.specs.Layout.{kindOf}
-use Rattle.records.specs.Bytes.{u16At}
-use Rattle.records.specs.Written.{two, recordOf, bodyOf, netBytes, endBytes, cardBytes, Bytes}
+use Rattle.card_wiring.specs.Layout.{kindOf}
+use Rattle.card_records.specs.Bytes.{u16At}
+use Rattle.card_records.specs.Written.{two, recordOf, bodyOf, netBytes, endBytes, cardBytes, Bytes}
+use Rattle.card_records.proofs.Again.{net-no-end}
 use Rattle.card.specs.Session.{none, sessionOf}
 use Rattle.card.specs.Load.{loadOf, taken}
 use Rattle.card.specs.Allowed.{Accepted}
@@ -25,9 +26,7 @@ use Rattle.sheet_text.specs.Sheet.{recordsText, loadedText, sheetOf}
 use Rattle.sheet_text.proofs.Walks.{ending, end-first, end-here, end-on}
 
 not-end : (w : Net) (len : ℕ) → isEnd (kindOf w) len ≡ false
-not-end input len = refl
-not-end (constant k) len = refl
-not-end (gate ty ps) len = refl
+not-end w len = rw (ne-eqb (kindOf w) 4 (net-no-end w))
 
 module _ (s : List ℕ) where
   -- two bytes, and a head, that stand at a place

@@ -11,8 +11,8 @@ use Rattle.rule.specs.Level.{depth}
 use Rattle.rule.specs.declared.Refusal.the-variants.{CutShort, BadRecord, NoRoom}
 use Rattle.rule.specs.declared.Answer.{Answer}
 use Rattle.rule.specs.declared.Answer.the-variants.{Done, Refused}
-use Rattle.records.specs.Bytes.{u16At}
-use Rattle.records.specs.Written.{Bytes}
+use Rattle.card_records.specs.Bytes.{u16At}
+use Rattle.card_records.specs.Written.{Bytes}
 use Rattle.card.specs.declared.Session.{Session}
 use Rattle.card.specs.declared.Loaded.{Loaded}
 use Rattle.card.specs.Session.{none, cardOf}
@@ -26,7 +26,7 @@ use Rattle.sheet_text.specs.declared.Stage.{Stage}
 use Rattle.sheet_text.specs.declared.Stage.the-variants.{Fresh, Going, Over}
 use Rattle.sheet_text.specs.declared.Sheet.{Sheet}
 use Rattle.sheet_text.specs.Walk.{cardEnd, entryIn, entryAt, body}
-use Rattle.sheet_text.specs.Pieces.{fresh, ended, moved, Portion, refusal, pieceUnless, loadedPiece, cardPiece, entryPiece, pieceAt, pieceOf, Standing, isOver}
+use Rattle.sheet_text.specs.Inner.Pieces.{fresh, ended, movedSheet, Portion, refusedPiece, pieceUnless, loadedPiece, cardPiece, entryPiece, pieceAt, pieceOf, Standing, isOver}
 use Rattle.sheet_text.proofs.Left.{leftAt, left}
 use Rattle.sheet_text.proofs.Steps.{bytes-front}
 
@@ -88,7 +88,7 @@ unless-stands (Refused why) sheet p g s = over-stands sheet g
 
 moved-stands : (sheet : Sheet) → Standing sheet → sheet .stage ≡ Going → (s : Session) → Good s → cardOf s ≡ cardOf (sheet .session)
     → (next vectors : ℕ)
-    → vectors ≤ next → Standing (moved sheet s next vectors)
+    → vectors ≤ next → Standing (movedSheet sheet s next vectors)
 moved-stands sheet t q s good same next vectors l = record { good = good; deep = λ e. t .deep q ∙ ap depth (sym same); counted = λ e. l }
 
 module _ (file : List ℕ) (bytes : Bytes file) where
@@ -99,7 +99,7 @@ module _ (file : List ℕ) (bytes : Bytes file) where
       l : Loaded
       l = loadOf none (take (cardEnd file) file)
 
-      go : (b : Bool) → Standing (cond b (refusal sheet NoRoom) (loadedPiece sheet (cardEnd file) l) .after)
+      go : (b : Bool) → Standing (cond b (refusedPiece sheet NoRoom) (loadedPiece sheet (cardEnd file) l) .after)
       go true = over-stands sheet g
       go false =
           unless-stands (l .answer) sheet _ g
@@ -150,7 +150,7 @@ module _ (file : List ℕ) where
       rest : ℕ
       rest = length file - sheet .at
 
-      card : (b : Bool) → left (cond b (refusal sheet NoRoom) (loadedPiece sheet (cardEnd file) l) .after) file < length file + 2
+      card : (b : Bool) → left (cond b (refusedPiece sheet NoRoom) (loadedPiece sheet (cardEnd file) l) .after) file < length file + 2
       card true = omega arith
       card false = unless-left (l .answer) sheet _ (length file + 2) (omega arith) (omega arith)
 

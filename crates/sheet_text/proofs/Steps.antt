@@ -11,16 +11,16 @@ use Rattle.rule.specs.declared.Refusal.{Refusal}
 use Rattle.rule.specs.declared.Refusal.the-variants.{NoRoom}
 use Rattle.rule.specs.declared.Answer.{Answer}
 use Rattle.rule.specs.declared.Answer.the-variants.{Done, Refused}
-use Rattle.records.specs.Written.{Bytes}
+use Rattle.card_records.specs.Written.{Bytes}
 use Rattle.card.specs.declared.Session.{Session}
 use Rattle.card.specs.declared.Loaded.{Loaded}
 use Rattle.card.specs.Session.{none}
 use Rattle.card.specs.Load.{loadOf}
-use Rattle.text.specs.Text.{Put}
+use Rattle.text.specs.Inner.Put.{Put}
 use Rattle.sheet_text.specs.declared.Sheet.{Sheet}
 use Rattle.sheet_text.specs.declared.Stage.{Stage}
 use Rattle.sheet_text.specs.Walk.{cardEnd}
-use Rattle.sheet_text.specs.Pieces.{Portion, Written, refusal, pieceUnless, loadedPiece, cardPiece, pieceAt, pieceOf, written}
+use Rattle.sheet_text.specs.Inner.Pieces.{Portion, Written, refusedPiece, pieceUnless, loadedPiece, cardPiece, pieceAt, pieceOf, written}
 
 -- a text put at the front of the page, and the sheet after it
 pub hand-back : (p : Portion) {sheet : Sheet} {old new : List ℕ} {n : ℕ} → sheet ≡ p .after → Put (p .text) old 0 new n
@@ -38,9 +38,9 @@ pub piece-at : (sheet : Sheet) (file : List ℕ) (x : Stage) → sheet .stage �
 unfolding pieceOf
 piece-at sheet file x e = ap (λ y. pieceAt y sheet file) (sym e)
 
--- An answer decides between a refusal and a portion
+-- An answer decides between a refusedPiece and a portion
 
-pub refused-so : (a : Answer) (sheet : Sheet) (p : Portion) (why : Refusal) → a ≡ Refused why → refusal sheet why ≡ pieceUnless a sheet p
+pub refused-so : (a : Answer) (sheet : Sheet) (p : Portion) (why : Refusal) → a ≡ Refused why → refusedPiece sheet why ≡ pieceUnless a sheet p
 refused-so a sheet p why e = ap (λ x. pieceUnless x sheet p) (sym e)
 
 pub done-so : (a : Answer) (sheet : Sheet) (p : Portion) (k : ℕ) → a ≡ Done k → p ≡ pieceUnless a sheet p
@@ -48,7 +48,7 @@ done-so a sheet p k e = ap (λ x. pieceUnless x sheet p) (sym e)
 
 -- The card
 
-pub card-long : (sheet : Sheet) (file : List ℕ) → 65536 < length file → refusal sheet NoRoom ≡ cardPiece sheet file
+pub card-long : (sheet : Sheet) (file : List ℕ) → 65536 < length file → refusedPiece sheet NoRoom ≡ cardPiece sheet file
 unfolding cardPiece
 card-long sheet file l = rw (lt-ltb 65536 (length file) l)
 

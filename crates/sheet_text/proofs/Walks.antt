@@ -8,7 +8,7 @@ use lib.Dec.{ltb}
 use lib.ListN.{length}
 use borrow.Author.Tests.{lt-ltb, le-ltb, le-leb, lt-leb, eq-eqb, ne-eqb}
 use Rattle.rule.specs.declared.Refusal.the-variants.{CutShort, BadRecord}
-use Rattle.records.specs.Bytes.{u16At}
+use Rattle.card_records.specs.Bytes.{u16At}
 use Rattle.sheet_text.specs.declared.Entry.the-variants.{Nothing, Bad, Rest, Vector}
 use Rattle.sheet_text.specs.Walk.{isEnd, endFrom, cardEnd, entryIn, entryAt}
 

@@ -5,7 +5,7 @@ use Prim.Native.Nat.{ℕ, zero, suc, _+_, _-_}
 use lib.Dec.{eqb, leb, ltb}
 use lib.ListN.{length, take, drop}
 use Rattle.rule.specs.declared.Refusal.the-variants.{CutShort, BadRecord}
-use Rattle.records.specs.Bytes.{u16At}
+use Rattle.card_records.specs.Bytes.{u16At}
 use Rattle.sheet_text.specs.declared.Entry.{Entry}
 use Rattle.sheet_text.specs.declared.Entry.the-variants.{Nothing, Bad, Rest, Vector}
 

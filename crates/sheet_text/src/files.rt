@@ -23,8 +23,8 @@ pub fn card_end(file: &[u8]) -> usize
     let n = file.len();
     let mut at: usize = 0;
     while at + 4 <= n {
-        let len = records::u16_at(file, at);
-        let kind = records::u16_at(file, at + 2);
+        let len = card_records::u16_at(file, at);
+        let kind = card_records::u16_at(file, at + 2);
         if is_end(kind, len) {
             return at + 4;
         }
@@ -44,8 +44,8 @@ pub fn entry_at(file: &[u8], at: usize) -> Entry
     if n - at < 4 {
         return Entry::Bad(Refusal::CutShort);
     }
-    let len = records::u16_at(file, at);
-    let kind = records::u16_at(file, at + 2);
+    let len = card_records::u16_at(file, at);
+    let kind = card_records::u16_at(file, at + 2);
     let next = at + 4 + len;
     match kind {
         5 => {

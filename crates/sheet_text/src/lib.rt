@@ -7,7 +7,8 @@ ghost use Prim.Native.Nat.{_<_, _≤_};
 ghost use Rattle.card.specs.Held.{HasCard};
 ghost use Rattle.session.specs.Moves.{restOf, vectorOf};
 ghost use Rattle.sheet_text.specs.Lines.{cardText};
-ghost use Rattle.sheet_text.specs.Pieces.{fresh, ended, opened, refusal, cardPiece, restPiece, vectorPiece, entryPiece, pieceOf, written, Standing, isOver};
+ghost use Rattle.sheet_text.specs.Inner.Pieces.{fresh, ended, opened, refusedPiece, pieceOf, written, Standing, isOver};
+ghost use Rattle.sheet_text.specs.Inner.Pieces.{cardPiece, restPiece, vectorPiece, entryPiece};
 ghost use Rattle.sheet_text.specs.Walk.{entryAt};
 ghost use Rattle.sheet_text.specs.declared.Stage.the-variants.{Going};
 use card::Session;
@@ -76,9 +77,9 @@ fn end(sheet: Sheet) -> Sheet
     }
 }
 
-// A refusal: its line, and the sheet ends.
+// A refusedPiece: its line, and the sheet ends.
 fn refused(sheet: Sheet, why: Refusal, out: &mut [u8; 20480]) -> Piece
-    ensures { λ r. ⌜ record { piece = r; page = now (out .exit) } ≡ written (refusal sheet why) (now (out .entry)) ⌝ }
+    ensures { λ r. ⌜ record { piece = r; page = now (out .exit) } ≡ written (refusedPiece sheet why) (now (out .entry)) ⌝ }
 {
     let length = put_refused(out, why);
     Piece {
@@ -90,7 +91,8 @@ fn refused(sheet: Sheet, why: Refusal, out: &mut [u8; 20480]) -> Piece
 // A card that was taken: its line, and the place after it.
 fn taken(session: Session, at: usize, out: &mut [u8; 20480]) -> Piece
     requires { ⌜ HasCard session ⌝ }
-    ensures { λ r. ⌜ record { piece = r; page = now (out .exit) } ≡ written (record { text = cardText session; after = opened session at }) (now (out .entry)) ⌝ }
+    ensures { λ r. ⌜ record { piece = r; page = now (out .exit) }
+        ≡ written (record { text = cardText session; after = opened session at }) (now (out .entry)) ⌝ }
 {
     let depth = card::depth_of(session);
     let length = put_card(out, session, depth);
@@ -126,7 +128,8 @@ fn open_card(sheet: Sheet, file: &[u8], out: &mut [u8; 20480]) -> Piece
 // A rest prints nothing.
 fn rest(sheet: Sheet, v: &[u8], next: usize, out: &mut [u8; 20480]) -> Piece
     requires { ⌜ Standing sheet ⌝ }
-    ensures { λ r. ⌜ record { piece = r; page = now (out .exit) } ≡ written (restPiece sheet next (restOf (sheet .session) (now (v .entry)))) (now (out .entry)) ⌝ }
+    ensures { λ r. ⌜ record { piece = r; page = now (out .exit) }
+        ≡ written (restPiece sheet next (restOf (sheet .session) (now (v .entry)))) (now (out .entry)) ⌝ }
 {
     let moved = session::rest(sheet.session, v);
     let answer = moved.answer;
@@ -150,7 +153,8 @@ fn rest(sheet: Sheet, v: &[u8], next: usize, out: &mut [u8; 20480]) -> Piece
 fn vector(sheet: Sheet, v: &[u8], next: usize, out: &mut [u8; 20480]) -> Piece
     requires { ⌜ Standing sheet ⌝ }
     requires { ⌜ (sheet .stage ≡ Going) × (sheet .at < next) ⌝ }
-    ensures { λ r. ⌜ record { piece = r; page = now (out .exit) } ≡ written (vectorPiece sheet next (vectorOf (sheet .session) (now (v .entry)))) (now (out .entry)) ⌝ }
+    ensures { λ r. ⌜ record { piece = r; page = now (out .exit) }
+        ≡ written (vectorPiece sheet next (vectorOf (sheet .session) (now (v .entry)))) (now (out .entry)) ⌝ }
 {
     let moved = session::vector(sheet.session, v);
     let answer = moved.answer;
@@ -179,7 +183,8 @@ fn vector(sheet: Sheet, v: &[u8], next: usize, out: &mut [u8; 20480]) -> Piece
 fn next_record(sheet: Sheet, file: &[u8], out: &mut [u8; 20480]) -> Piece
     requires { ⌜ Standing sheet ⌝ }
     requires { ⌜ sheet .stage ≡ Going ⌝ }
-    ensures { λ r. ⌜ record { piece = r; page = now (out .exit) } ≡ written (entryPiece sheet (now (file .entry)) (entryAt (now (file .entry)) (sheet .at))) (now (out .entry)) ⌝ }
+    ensures { λ r. ⌜ record { piece = r; page = now (out .exit) }
+        ≡ written (entryPiece sheet (now (file .entry)) (entryAt (now (file .entry)) (sheet .at))) (now (out .entry)) ⌝ }
 {
     let at = sheet.at;
     match entry_at(file, at) {
@@ -202,7 +207,8 @@ fn next_record(sheet: Sheet, file: &[u8], out: &mut [u8; 20480]) -> Piece
 // The next piece of a file's sheet: its text at the front of the page, and the sheet after it.
 pub fn next(sheet: Sheet, file: &[u8], out: &mut [u8; 20480]) -> Piece
     requires { ⌜ Standing sheet ⌝ }
-    ensures { λ r. ⌜ (record { piece = r; page = now (out .exit) } ≡ written (pieceOf sheet (now (file .entry))) (now (out .entry))) × Standing (r .sheet) × (r .length ≤ 20480) ⌝ }
+    ensures { λ r. ⌜ (record { piece = r; page = now (out .exit) } ≡ written (pieceOf sheet (now (file .entry))) (now (out .entry)))
+        × Standing (r .sheet) × (r .length ≤ 20480) ⌝ }
 {
     let stage = sheet.stage;
     match stage {

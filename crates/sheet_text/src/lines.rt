@@ -9,7 +9,8 @@ ghost use Rattle.rule.specs.Level.{depth as depthOf};
 ghost use Rattle.card.specs.Session.{cardOf};
 ghost use Rattle.card.specs.Held.{HasCard};
 ghost use Rattle.session.specs.Good.{Good};
-ghost use Rattle.text.specs.Text.{digit, Put};
+ghost use Rattle.text.specs.Text.{digit};
+ghost use Rattle.text.specs.Inner.Put.{Put};
 ghost use Rattle.sheet_text.specs.Lines.{refusedLine, values, netLine, cardText, vectorText};
 use card::Session;
 use rule::Refusal;
@@ -91,7 +92,9 @@ fn put_nets<'a>(
     flags: &'a [u8; 256],
 ) -> usize
     requires { ⌜ (depth ≤ 63) × (n ≤ 256) × (at + 77 * n ≤ 20480) ⌝ }
-    ensures { λ r. ⌜ Put (each (λ (i : ℕ). netLine depth i (getD (now (befores .entry)) i 0) (getD (now (words .entry)) i 0) (getD (now (flags .entry)) i 0)) (from 0 n)) (now (out .entry)) at (now (out .exit)) r ⌝ }
+    ensures { λ r. ⌜ Put
+        (each (λ (i : ℕ). netLine depth i (getD (now (befores .entry)) i 0) (getD (now (words .entry)) i 0) (getD (now (flags .entry)) i 0)) (from 0 n))
+        (now (out .entry)) at (now (out .exit)) r ⌝ }
 {
     let mut end = at;
     let mut i: usize = 0;

@@ -17,12 +17,14 @@ use Rattle.card.specs.declared.Session.{Session}
 use Rattle.card.specs.Session.{cardOf}
 use Rattle.card.proofs.Kept.{card-steps}
 use Rattle.session.specs.Good.{Good}
-use Rattle.listing.specs.Listing.{Holds, listOf}
-use Rattle.listing.proofs.Lists.{held-net, held-time}
-use Rattle.listing.proofs.Answers.{list-12, list-18, list-0}
+use Rattle.step_list.specs.Listing.{listOf}
+use Rattle.step_list.specs.Inner.Listing.{Holds}
+use Rattle.step_list.proofs.Lists.{held-net, held-time}
+use Rattle.step_list.proofs.Answers.{list-12, list-18, list-0}
 use Rattle.step_records.specs.declared.StepRecord.{StepRecord}
 use Rattle.step_records.specs.declared.Listing.{Listing}
-use Rattle.step_records.specs.Records.{blank, recordOf, recordIn, recordsIn, written, refusedListing, listingOf, Answered, recordsOf}
+use Rattle.step_records.specs.Records.{blankRecord, stepRecord, recordsIn, recordsPut, Answered, recordsOf}
+use Rattle.step_records.specs.Inner.Records.{recordIn, refusedListing, listingOf}
 
 -- What is found for room of a given length
 
@@ -31,7 +33,7 @@ module _ (s : Session) (room : ℕ) where
   ks = stepList (cardOf s)
 
   abbrev full : Listing
-  full = record { answer = Done (length ks); total = length ks; records = written s (replicate 4096 blank) }
+  full = record { answer = Done (length ks); total = length ks; records = recordsPut s (replicate 4096 blankRecord) }
 
   abbrev found : Bool → Bool → Listing
   found a b = cond a (cond b full (refusedListing NoRoom)) (refusedListing NotReady)
@@ -52,14 +54,14 @@ module _ (s : Session) (room : ℕ) where
   -- the list stands in two arrays, whose first entries are made records
   pub listing-made : {nets₀ times₀ nets times : List ℕ} {total : ℕ} → Holds ks nets₀ times₀ nets times total → length nets₀ ≡ 4096
       → length times₀ ≡ 4096 → total ≤ 4096 → s .loaded ≡ true → total ≤ room → (records : List StepRecord)
-      → records ≡ recordsIn (recordIn nets times) total (replicate 4096 blank)
+      → records ≡ recordsIn (recordIn nets times) total (replicate 4096 blankRecord)
       → record { answer = Done total; total = total; records = records } ≡ listingOf s room
   listing-made {nets₀} {times₀} {nets} {times} {total} h ln lt few loaded fits records e =
       let at : (e : ℕ) → e < total → e < length ks = λ e b. omega (arith, h .size) in
       ap (λ x. record { answer = Done total; total = total; records = x })
-      (e ∙ fills-same blank (recordIn nets times) (λ e. recordOf (stepAt ks e)) total (replicate 4096 blank)
+      (e ∙ fills-same blankRecord (recordIn nets times) (λ e. stepRecord (stepAt ks e)) total (replicate 4096 blankRecord)
       (λ e b i. record { net = held-net h ln lt few e (at e b) i; time = held-time h ln lt few e (at e b) i }))
-      ∙ ap (λ n. record { answer = Done n; total = n; records = recordsIn (λ e. recordOf (stepAt ks e)) n (replicate 4096 blank) }) (h .size)
+      ∙ ap (λ n. record { answer = Done n; total = n; records = recordsIn (λ e. stepRecord (stepAt ks e)) n (replicate 4096 blankRecord) }) (h .size)
       ∙ sym (listing-full loaded (omega (arith, h .size)))
 
 -- What goes to the lent room
@@ -73,7 +75,7 @@ module _ (s : Session) (room : List StepRecord) where
   kept why = record { answer = Refused why; room = room }
 
   abbrev tested : Bool → Bool → Answered
-  tested a b = cond a (cond b (record { answer = Done (length all); room = written s room }) (kept NoRoom)) (kept NotReady)
+  tested a b = cond a (cond b (record { answer = Done (length all); room = recordsPut s room }) (kept NoRoom)) (kept NotReady)
 
   tested-is : (a b : Bool) → s .loaded ≡ a → leb (length all) (length room) ≡ b → recordsOf s room ≡ tested a b
   unfolding recordsOf
@@ -88,14 +90,14 @@ module _ (s : Session) (room : List StepRecord) where
   records-18 e l = tested-is true false e (lt-leb (length all) (length room) l)
 
   -- 0 else, with the list's length
-  pub records-0 : s .loaded ≡ true → length all ≤ length room → recordsOf s room ≡ record { answer = Done (length all); room = written s room }
+  pub records-0 : s .loaded ≡ true → length all ≤ length room → recordsOf s room ≡ record { answer = Done (length all); room = recordsPut s room }
   records-0 e l = tested-is true true e (le-leb (length all) (length room) l)
 
   -- and each answer is given for that alone
   pub data Ruling : Answered → Type 0 where
     says-12 : s .loaded ≡ false → Ruling (record { answer = Refused NotReady; room = room })
     says-18 : s .loaded ≡ true → length room < length all → Ruling (record { answer = Refused NoRoom; room = room })
-    says-0 : s .loaded ≡ true → length all ≤ length room → Ruling (record { answer = Done (length all); room = written s room })
+    says-0 : s .loaded ≡ true → length all ≤ length room → Ruling (record { answer = Done (length all); room = recordsPut s room })
 
   pub records-ruled : Ruling (recordsOf s room)
   records-ruled = go (s .loaded) (leb (length all) (length room)) refl refl
@@ -118,7 +120,7 @@ module _ (s : Session) (room : List StepRecord) where
 
   -- what is found is copied to the room's front
   abbrev pub copied : Listing → Answered
-  copied r = record { answer = r .answer; room = recordsIn (λ e. getD (r .records) e blank) (r .total) room }
+  copied r = record { answer = r .answer; room = recordsIn (λ e. getD (r .records) e blankRecord) (r .total) room }
 
   module _ (good : Good s) where
     pub found-fits : (listingOf s (length room) .total ≤ length room) × (listingOf s (length room) .total ≤ 4096)
@@ -136,7 +138,7 @@ module _ (s : Session) (room : List StepRecord) where
     found-copied = go (s .loaded) (leb (length all) (length room)) refl refl
       where
         none-copied : (why : Refusal) → copied (refusedListing why) ≡ kept why
-        none-copied why = ap (λ x. record { answer = Refused why; room = x }) (sym (fills-none blank _ room))
+        none-copied why = ap (λ x. record { answer = Refused why; room = x }) (sym (fills-none blankRecord _ room))
 
         go : (a b : Bool) → s .loaded ≡ a → leb (length all) (length room) ≡ b → copied (listingOf s (length room)) ≡ recordsOf s room
         go false b ea eb = ap copied (listing-none s (length room) ea) ∙ none-copied NotReady ∙ sym (records-12 ea)
@@ -144,10 +146,10 @@ module _ (s : Session) (room : List StepRecord) where
         go true true ea eb =
             let l = leb-true _ _ eb in
             let few = card-steps s (good .card ea) in
-            let size = length-replicate 4096 blank in
+            let size = length-replicate 4096 blankRecord in
             ap copied (listing-full s (length room) ea l)
             ∙ ap (λ x. record { answer = Done (length all); room = x })
-            (fills-through blank (λ e. recordOf (stepAt all e)) (length all) (length all) (replicate 4096 blank) room (omega arith)
+            (fills-through blankRecord (λ e. stepRecord (stepAt all e)) (length all) (length all) (replicate 4096 blankRecord) room (omega arith)
             (omega (arith, few, size)))
             ∙ sym (records-0 ea l)
 
@@ -155,14 +157,14 @@ module _ (s : Session) (room : List StepRecord) where
 
   module _ (loaded : s .loaded ≡ true) (fits : length all ≤ length room) where
     -- entry e is step e,
-    pub records-step : (e : ℕ) → e < length all → getD (recordsOf s room .room) e blank ≡ recordOf (stepAt all e)
+    pub records-step : (e : ℕ) → e < length all → getD (recordsOf s room .room) e blankRecord ≡ stepRecord (stepAt all e)
     records-step e l =
-        ap (λ r. getD (r .room) e blank) (records-0 loaded fits) ∙ fills-at blank (λ e. recordOf (stepAt all e)) (length all) e room fits l
+        ap (λ r. getD (r .room) e blankRecord) (records-0 loaded fits) ∙ fills-at blankRecord (λ e. stepRecord (stepAt all e)) (length all) e room fits l
 
     -- and the entries past the list are kept
-    pub records-keep : (e : ℕ) → length all ≤ e → getD (recordsOf s room .room) e blank ≡ getD room e blank
+    pub records-keep : (e : ℕ) → length all ≤ e → getD (recordsOf s room .room) e blankRecord ≡ getD room e blankRecord
     records-keep e l =
-        ap (λ r. getD (r .room) e blank) (records-0 loaded fits) ∙ fills-past blank (λ e. recordOf (stepAt all e)) (length all) e room l
+        ap (λ r. getD (r .room) e blankRecord) (records-0 loaded fits) ∙ fills-past blankRecord (λ e. stepRecord (stepAt all e)) (length all) e room l
 
 -- The two forms of the list agree: in room as long they answer the same, and name the same steps
 
@@ -179,13 +181,13 @@ module _ (s : Session) (room : List StepRecord) (nets times : List ℕ) (ln : le
       go r (says-0 e l) = sym (ap (λ x. x .answer) (list-0 s nets times e (omega arith) (omega arith)))
 
   module _ (loaded : s .loaded ≡ true) (fits : length steps ≤ length room) (e : ℕ) (l : e < length steps) where
-    pub forms-net : getD (recordsOf s room .room) e blank .net ≡ getD (listOf s nets times .nets) e 0
+    pub forms-net : getD (recordsOf s room .room) e blankRecord .net ≡ getD (listOf s nets times .nets) e 0
     forms-net =
         ap (λ r. r .net) (records-step s room loaded fits e l)
         ∙ sym (ap (λ r. getD (r .nets) e 0) (list-0 s nets times loaded (omega arith) (omega arith))
         ∙ fills-at 0 (λ e. stepAt steps e .net) (length steps) e nets (omega arith) l)
 
-    pub forms-time : getD (recordsOf s room .room) e blank .time ≡ getD (listOf s nets times .times) e 0
+    pub forms-time : getD (recordsOf s room .room) e blankRecord .time ≡ getD (listOf s nets times .times) e 0
     forms-time =
         ap (λ r. r .time) (records-step s room loaded fits e l)
         ∙ sym (ap (λ r. getD (r .times) e 0) (list-0 s nets times loaded (omega arith) (omega arith))

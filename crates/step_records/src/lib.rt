@@ -3,7 +3,8 @@ ghost use mathlib.Core.Path.{_≡_};
 ghost use Prim.Native.Nat.{_≤_};
 ghost use lib.ListN.{replicate};
 ghost use Rattle.session.specs.Good.{Good};
-ghost use Rattle.step_records.specs.Records.{blank, recordIn, recordsIn, refusedListing, listingOf, recordsOf};
+ghost use Rattle.step_records.specs.Records.{blankRecord, recordsIn, recordsOf};
+ghost use Rattle.step_records.specs.Inner.Records.{recordIn, refusedListing, listingOf};
 use card::Session;
 use rule::Answer;
 use rule::Refusal;
@@ -24,7 +25,7 @@ struct Listing {
 // The first n steps that two arrays name.
 fn records_of<'a>(nets: &'a [u16; 4096], times: &'a [u8; 4096], n: usize) -> [StepRecord; 4096]
     requires { ⌜ n ≤ 4096 ⌝ }
-    ensures { λ r. ⌜ r ≡ recordsIn (recordIn (now (nets .entry)) (now (times .entry))) n (replicate 4096 blank) ⌝ }
+    ensures { λ r. ⌜ r ≡ recordsIn (recordIn (now (nets .entry)) (now (times .entry))) n (replicate 4096 blankRecord) ⌝ }
 {
     let mut out = [StepRecord { net: 0, time: 0 }; 4096];
     let mut i: usize = 0;
@@ -59,7 +60,7 @@ fn list_for(s: Session, room: usize) -> Listing
     }
     let mut nets = [0u16; 4096];
     let mut times = [0u8; 4096];
-    let total = listing::put_list(&mut nets, &mut times, &s.sets, &s.order, s.gates);
+    let total = step_list::put_list(&mut nets, &mut times, &s.sets, &s.order, s.gates);
     if room < total {
         return no_records(Refusal::NoRoom);
     }

@@ -11,7 +11,8 @@ use lib.Dec.{eqb, ltb}
 use lib.ListN.{length, getD, take, drop, set, length-append, drop-of-length-le}
 use lib.Seq.{sets, take-suc, drop-cons}
 use borrow.Author.Tests.{eq-eqb, ne-eqb, lt-ltb, le-ltb}
-use Rattle.text.specs.Text.{digit, digitsIn, decimal, sameText, Put}
+use Rattle.text.specs.Text.{digit, digitsIn, decimal, sameText}
+use Rattle.text.specs.Inner.Put.{Put}
 
 -- two texts, the second where the first ends
 pub sets-append : (s t l : List ℕ) (i : ℕ) → sets l i (s ++ t) ≡ sets (sets l i s) (i + length s) t

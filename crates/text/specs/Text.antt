@@ -1,11 +1,8 @@
 -- Text as bytes: numbers in decimal, whether two texts are the same, and a text put at a place of a page. Assumes nothing.
-use mathlib.Core.Path.{_≡_}
 use mathlib.Core.Bool.{Bool, true, false, cond}
 use mathlib.Core.List.{List, [], _∷_, _++_}
 use Prim.Native.Nat.{ℕ, zero, suc, _+_, _/_, _%_}
 use lib.Dec.{eqb, ltb}
-use lib.ListN.{length}
-use lib.Seq.{sets}
 
 -- the byte of a digit
 abbrev pub digit : ℕ → ℕ
@@ -34,8 +31,3 @@ sameText [] [] = true
 sameText [] (y ∷ ys) = false
 sameText (x ∷ xs) [] = false
 sameText (x ∷ xs) (y ∷ ys) = cond (eqb x y) (sameText xs ys) false
-
--- a text stands in a page from a place on, the rest of the page is as it was, and `end` is the place after the text
-pub record Put (text old : List ℕ) (at : ℕ) (new : List ℕ) (end : ℕ) : Type 0 where
-  pub page-is : new ≡ sets old at text
-  pub end-is : end ≡ at + length text

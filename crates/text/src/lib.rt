@@ -3,7 +3,8 @@ ghost use mathlib.Core.Path.{_≡_};
 ghost use mathlib.Core.List.{[], _∷_};
 ghost use Prim.Native.Nat.{_+_, _<_, _≤_};
 ghost use lib.ListN.{length};
-ghost use Rattle.text.specs.Text.{digit as digitByte, decimal, numbered, named, sameText, Put};
+ghost use Rattle.text.specs.Text.{digit as digitByte, decimal, numbered, named, sameText};
+ghost use Rattle.text.specs.Inner.Put.{Put};
 
 // One byte.
 pub fn put(out: &mut [u8; 20480], at: usize, b: u8) -> usize

@@ -1,6 +1,6 @@
 -- The laws of `bit`: of and, or, xor, not, the shifts and masks on words, and that a word is its bits. Assumes nothing.
 use mathlib.Core.Path.{_≡_, refl, sym, ap, ap₂, _∙_, subst}
-use mathlib.Core.Bool.{cond, and-true, and-false, Bool, true, false, not, _&&_, _||_, or-false, or-true}
+use mathlib.Core.Bool.{cond, and-true, and-false, and-comm, Bool, true, false, not, _&&_, _||_, or-false, or-true}
 use Prim.Native.Nat.{ℕ, zero, suc, _+_, _-_, _*_, _/_, _%_, _^_, _≤_, _<_, zero-le, suc-le-suc}
 use native.Mathlib.Nat.{sub-zero, one-mul, mul-div-cancel, mul-mod-left, mod-eq-of-lt, mod-lt, zero-lt-suc, div-one, pow-suc, div-eq-of-lt, not-suc-le-zero, div-add-mod', le-of-suc-le-suc, lt-of-lt-of-le}
 use native.Mathlib.Omega.{arith}
@@ -9,9 +9,9 @@ use lib.Arith.{lt-one}
 use lib.Pow.{pow-pos, pow-lt, shl-shr, shr-lt, mod-mod-pow, pow-mono, shr-shr, field}
 use lib.Bits.{bitAnd, bitOr, bitXor, and-shr, or-shr, xor-shr, and-mask, mask-lt, and-mod, or-mod, xor-mod}
 use mir.Val.{boolByte}
-use lib.Dec.{eqb, lit<}
-use borrow.Author.Tests.{eq-eqb, ne-eqb}
-use native.Mathlib.Decide.{ℕ-discrete}
+use lib.Dec.{eqb, leb, ltb, lit<}
+use borrow.Author.Tests.{eq-eqb, ne-eqb, le-leb, lt-leb, lt-ltb, le-ltb}
+use native.Mathlib.Decide.{ℕ-discrete, decLt}
 use Rattle.word.specs.Word.{isOne, val, differ, bit, movedUp}
 use Rattle.word.specs.Times.{zeroIn}
 
@@ -195,6 +195,42 @@ bit-with-zero w (suc t) = bit-or w 1 (suc t) ∙ ap (λ b. bit w (suc t) || b) (
 -- every bit of the largest word is one
 pub bit-ones : (k t : ℕ) → t < k → bit (2 ^ k - 1) t ≡ true
 bit-ones k t l = rw sub-zero at (bit-not k 0 t (pow-pos k) l ∙ ap not (bit-none t))
+
+pub bit-below : (w t u : ℕ) → bit (bitAnd w (2 ^ t - 1)) u ≡ ltb u t && bit w u
+bit-below w t u = go (decLt u t)
+  where
+    go : Dec (u < t) → bit (bitAnd w (2 ^ t - 1)) u ≡ ltb u t && bit w u
+    go (yes a) = bit-mask-below w t u a ∙ ap (λ b. b && bit w u) (sym (lt-ltb u t a))
+    go (no a) = bit-mask-above w t u (omega arith) ∙ ap (λ b. b && bit w u) (sym (le-ltb u t (omega arith)))
+
+pub all-below : (k w t u : ℕ) → w < 2 ^ k → k ≤ t → bit w u ≡ ltb u t && bit w u
+all-below k w t u h l = go (decLt u t)
+  where
+    go : Dec (u < t) → bit w u ≡ ltb u t && bit w u
+    go (yes a) = ap (λ b. b && bit w u) (sym (lt-ltb u t a))
+    go (no a) = bit-high k w u h (omega arith) ∙ ap (λ b. b && bit w u) (sym (le-ltb u t (omega arith)))
+
+-- All but the t low bits
+
+-- where t is past a word of k bits, it has none
+pub past-none : (k w t u : ℕ) → w < 2 ^ k → k ≤ t → leb t u && bit w u ≡ false
+past-none k w t u h l = go (decLt u t)
+  where
+    go : Dec (u < t) → leb t u && bit w u ≡ false
+    go (yes a) = ap (λ b. b && bit w u) (lt-leb t u a)
+    go (no a) = rw (bit-high k w u h (omega arith), and-false)
+
+pub bit-mask-from : (k w t u : ℕ) → t < k → w < 2 ^ k → bit (bitAnd w ((2 ^ k - 1) - (2 ^ t - 1))) u ≡ leb t u && bit w u
+bit-mask-from k w t u l h = bit-and w ((2 ^ k - 1) - (2 ^ t - 1)) u ∙ and-comm (bit w u) _ ∙ go (decLt u t) (decLt u k)
+  where
+    mask : 2 ^ t - 1 < 2 ^ k
+    mask = omega (arith, pow-pos t, pow-lt {i = t} {j = k} l)
+
+    go : Dec (u < t) → Dec (u < k) → bit ((2 ^ k - 1) - (2 ^ t - 1)) u && bit w u ≡ leb t u && bit w u
+    go (yes a) q = ap (λ b. b && bit w u) (bit-not k (2 ^ t - 1) u mask (omega arith) ∙ ap not (bit-ones t u a) ∙ sym (lt-leb t u a))
+    go (no a) (yes b) =
+        ap (λ x. x && bit w u) (bit-not k (2 ^ t - 1) u mask b ∙ ap not (bit-high t (2 ^ t - 1) u (omega (arith, pow-pos t)) (omega arith)) ∙ sym (le-leb t u (omega arith)))
+    go (no a) (no b) = rw (bit-high k w u h (omega arith), and-false, and-false)
 
 -- One bit put into a word
 

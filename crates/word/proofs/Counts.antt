@@ -1,17 +1,20 @@
 -- The counts of a word's ones and of its zeros at either end, as the machine gives them, are its bits' count, least and
 -- largest. Assumes nothing.
 use mathlib.Core.Path.{_≡_, refl, sym, ap, ap₂, _∙_, subst}
-use mathlib.Core.Bool.{Bool, true, cond}
-use Prim.Native.Nat.{ℕ, zero, suc, _+_, _/_, _%_, _^_, _≤_, _<_}
+use mathlib.Core.Bool.{Bool, true, false, cond, _&&_, and-false, and-self}
+use Prim.Native.Nat.{ℕ, zero, suc, _+_, _-_, _/_, _%_, _^_, _≤_, _<_}
 use native.Mathlib.Nat.{div-eq-of-lt-le, mod-eq-of-lt, mod-lt, zero-lt-suc, pow-suc, not-suc-le-zero, le-of-suc-le-suc}
 use native.Mathlib.Omega.{arith}
 use native.Mathlib.Numerals.{one-add}
 use lib.Arith.{lt-one}
 use lib.Pow.{pow-pos, shr-lt, split}
+use lib.Bits.{bitAnd}
+use lib.Dec.{ltb, leb·suc-suc}
 use lib.Count.{ones, ones-cat, under, leadingZeros, leading-top, trailingZeros}
+use borrow.Author.Tests.{lt-ltb, le-ltb}
 use Rattle.word.specs.Word.{isOne, val, bit}
 use Rattle.word.specs.Times.{count, least, greatest}
-use Rattle.word.proofs.Bits.{bit-zero, bit-suc, bit-high, bit-mod}
+use Rattle.word.proofs.Bits.{val-isOne, bit-and, bit-zero, bit-suc, bit-high, bit-mod}
 use Rattle.word.proofs.Sets.{count-cong, least-cong, greatest-is}
 
 two-pos : zero < 2
@@ -48,6 +51,40 @@ trailing-least (suc k) w =
     cond-under (w % 2) (trailingZeros k (w / 2)) (least (λ (i : ℕ). bit w (suc i)) k) (mod-lt w two-pos)
     (trailing-least k (w / 2) ∙ least-cong (bit (w / 2)) (λ (i : ℕ). bit w (suc i)) k (λ t. sym (bit-suc w t)))
     ∙ ap (λ (b : Bool). cond b 0 (suc (least (λ (i : ℕ). bit w (suc i)) k))) (sym (bit-zero w))
+
+-- All but the lowest one: `w & (w - 1)`
+
+bit-odd : (w : ℕ) → bit w 0 ≡ true → w % 2 ≡ 1
+bit-odd w e = sym (val-isOne (w % 2) (mod-lt w two-pos)) ∙ ap val (sym (bit-zero w) ∙ e)
+
+bit-even : (w : ℕ) → bit w 0 ≡ false → w % 2 ≡ 0
+bit-even w e = sym (val-isOne (w % 2) (mod-lt w two-pos)) ∙ ap val (sym (bit-zero w) ∙ e)
+
+pub bit-without-least : (k w u : ℕ) → 0 < w → w < 2 ^ k → bit (bitAnd w (w - 1)) u ≡ ltb (least (bit w) k) u && bit w u
+unfolding least
+bit-without-least zero w u p h = absurd (omega arith)
+bit-without-least (suc k) w u p h = bit-and w (w - 1) u ∙ go (bit w 0) refl (λ v q l. bit-without-least k (w / 2) v q l) u
+  where
+    m : ℕ
+    m = least (λ i. bit w (suc i)) k
+
+    go : (b : Bool) → bit w 0 ≡ b → ((v : ℕ) → 0 < w / 2 → w / 2 < 2 ^ k → bit (bitAnd (w / 2) (w / 2 - 1)) v ≡ ltb (least (bit (w / 2)) k) v && bit (w / 2) v)
+        → (u : ℕ) → bit w u && bit (w - 1) u ≡ ltb (cond b 0 (suc m)) u && bit w u
+    go true e ih zero =
+        let o : (w - 1) % 2 ≡ 0 = omega (arith, bit-odd w e) in
+        ap (λ b. bit w 0 && b) (bit-zero (w - 1) ∙ ap isOne o) ∙ and-false (bit w 0)
+    go true e ih (suc v) =
+        let o : (w - 1) / 2 ≡ w / 2 = omega (arith, bit-odd w e) in
+        ap (λ b. bit w (suc v) && b) (bit-suc (w - 1) v ∙ ap (λ x. bit x v) o ∙ sym (bit-suc w v)) ∙ and-self (bit w (suc v))
+        ∙ ap (λ b. b && bit w (suc v)) (sym (lt-ltb 0 (suc v) (omega arith)))
+    go false e ih zero = ap (λ b. b && bit (w - 1) 0) e ∙ ap (λ b. b && bit w 0) (sym (le-ltb (suc m) 0 (omega arith)))
+    go false e ih (suc v) =
+        let o : (w - 1) / 2 ≡ w / 2 - 1 = omega (arith, bit-even w e) in
+        ap₂ _&&_ (bit-suc w v) (bit-suc (w - 1) v ∙ ap (λ x. bit x v) o)
+        ∙ sym (bit-and (w / 2) (w / 2 - 1) v)
+        ∙ ih v (omega (arith, bit-even w e)) (omega (arith, pow-suc 2 k))
+        ∙ ap₂ (λ n b. ltb n v && b) (least-cong (bit (w / 2)) (λ i. bit w (suc i)) k (λ t. sym (bit-suc w t))) (sym (bit-suc w v))
+        ∙ ap (λ b. b && bit w (suc v)) (sym (leb·suc-suc (suc m) v))
 
 -- The zeros above the highest one, that one's place and 1 make the width
 

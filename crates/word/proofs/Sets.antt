@@ -1,6 +1,6 @@
 -- Sets of times as tests: that equal tests have equal counts, least and largest elements, and what these are. Assumes nothing.
 use mathlib.Core.Path.{_≡_, refl, sym, ap, ap₂, _∙_, subst}
-use mathlib.Core.Bool.{Bool, true, false, cond, false≢true}
+use mathlib.Core.Bool.{Bool, true, false, cond, _&&_, and-false, false≢true}
 use mathlib.Core.Logic.{_⊎_, inl, inr, ⊎-elim}
 use Prim.Native.Nat.{ℕ, zero, suc, _+_, _≤_, _<_}
 use native.Mathlib.Nat.{le-of-eq, le-suc-iff, eq-or-lt-of-le, lt-suc-self, le-step, not-suc-le-zero, le-of-suc-le-suc}
@@ -8,6 +8,9 @@ use native.Mathlib.Numerals.{add-one}
 use native.Mathlib.Omega.{arith}
 use native.Mathlib.Decide.{decLt}
 use lib.Arith.{le-zero}
+use lib.Dec.{leb, ltb}
+use borrow.Author.Tests.{le-leb, lt-leb, leb-true, lt-ltb, le-ltb}
+use Rattle.lists.proofs.Bools.{and-both}
 use Rattle.word.specs.Word.{val}
 use Rattle.word.specs.Times.{count, least, greatest, zeroIn}
 use Rattle.word.proofs.Words.{val-lt}
@@ -88,6 +91,64 @@ least-none f zero h = refl
 least-none f (suc n) h =
     ap (λ (b : Bool). cond b 0 (suc (least (λ (i : ℕ). f (suc i)) n))) (h 0 (omega arith)) ∙ ap suc (least-none (λ (i : ℕ). f (suc i)) n (λ s l. h (suc s) (omega arith)))
 
+-- the first of a set at or after a place, and the bound where there is none
+pub record First (f : ℕ → Bool) (from n r : ℕ) : Type 0 where
+  pub after : from ≤ r
+  pub within : r ≤ n
+  pub in-set : r < n → f r ≡ true
+  pub none-ahead : (u : ℕ) → from ≤ u → u < r → f u ≡ false
+
+least-first : (f : ℕ → Bool) (n : ℕ) → First f 0 n (least f n)
+unfolding least
+least-first f zero = record { after = omega arith; within = omega arith; in-set = λ l. absurd (omega arith); none-ahead = λ u a l. absurd (omega arith) }
+least-first f (suc n) = go (f 0) refl (least-first (λ i. f (suc i)) n)
+  where
+    m : ℕ
+    m = least (λ i. f (suc i)) n
+
+    later : f 0 ≡ false → First (λ i. f (suc i)) 0 n m → (u : ℕ) → u < suc m → f u ≡ false
+    later e ih zero l = e
+    later e ih (suc u) l = ih .none-ahead u (omega arith) (omega arith)
+
+    go : (b : Bool) → f 0 ≡ b → First (λ i. f (suc i)) 0 n m → First f 0 (suc n) (cond b 0 (suc m))
+    go true e ih = record { after = omega arith; within = omega arith; in-set = λ l. e; none-ahead = λ u a l. absurd (omega arith) }
+    go false e ih = record { after = omega arith; within = omega (arith, ih .within); in-set = λ l. ih .in-set (omega arith); none-ahead = λ u a l. later e ih u l }
+
+-- a set from a place on is the same from its first element on
+pub from-first : (f g : ℕ → Bool) (from n r : ℕ) → First f from n r → ((u : ℕ) → g u ≡ leb from u && f u) → (u : ℕ) → g u ≡ leb r u && f u
+from-first f g from n r h e u = e u ∙ go (decLt u from) (decLt u r)
+  where
+    go : Dec (u < from) → Dec (u < r) → leb from u && f u ≡ leb r u && f u
+    go (yes a) q = ap (λ b. b && f u) (lt-leb from u a ∙ sym (lt-leb r u (omega (arith, h .after))))
+    go (no a) (yes b) = ap (λ x. leb from u && x) (h .none-ahead u (omega arith) b) ∙ and-false (leb from u) ∙ ap (λ x. x && f u) (sym (lt-leb r u b))
+    go (no a) (no b) = ap (λ x. x && f u) (le-leb from u (omega arith) ∙ sym (le-leb r u (omega arith)))
+
+-- what is left above t of a set from t on
+pub above-from : (f g h : ℕ → Bool) (t : ℕ) → ((u : ℕ) → g u ≡ leb t u && f u) → ((u : ℕ) → h u ≡ ltb t u && g u) → (u : ℕ) → h u ≡ leb (t + 1) u && f u
+above-from f g h t e d u = d u ∙ ap (λ b. ltb t u && b) (e u) ∙ go (decLt t u)
+  where
+    go : Dec (t < u) → ltb t u && (leb t u && f u) ≡ leb (t + 1) u && f u
+    go (yes a) = rw (lt-ltb t u a, le-leb t u (omega arith), le-leb (t + 1) u (omega arith))
+    go (no a) = rw (le-ltb t u (omega arith), lt-leb (t + 1) u (omega arith))
+
+-- the least of those that are not below a place is the first from there on
+pub next-first : (f g : ℕ → Bool) (from n r : ℕ) → from ≤ n → ((u : ℕ) → g u ≡ leb from u && f u) → r ≡ least g n → First f from n r
+next-first f g from n r l h e =
+    let r = least-first g n in
+    subst (First f from n) (sym e) (record {
+      after = go (decLt (least g n) n);
+      within = r .within;
+      in-set = λ a. both a .1;
+      none-ahead = λ u a b. ap (λ x. x && f u) (sym (le-leb from u a)) ∙ sym (h u) ∙ r .none-ahead u (omega arith) b;
+    })
+  where
+    both : least g n < n → (leb from (least g n) ≡ true) × (f (least g n) ≡ true)
+    both a = and-both (leb from (least g n)) (f (least g n)) (sym (h (least g n)) ∙ least-first g n .in-set a)
+
+    go : Dec (least g n < n) → from ≤ least g n
+    go (yes a) = leb-true from (least g n) (both a .0)
+    go (no a) = omega (arith, least-first g n .within)
+
 -- `greatest`
 
 pub greatest-is : (f : ℕ → Bool) (n none r : ℕ) → r < n → f r ≡ true → ((s : ℕ) → r < s → s < n → f s ≡ false) → greatest f n none ≡ r
@@ -143,6 +204,31 @@ module _ (f : ℕ → Bool) (n none : ℕ) (some : 0 < n) where
 
   pub zero-in : zeroIn f (greatest (zeroIn f) n none) ≡ true
   zero-in = greatest-ge (zeroIn f) n none 0 some refl .2
+
+pub zero-cong : (f g : ℕ → Bool) → ((u : ℕ) → f u ≡ g u) → (u : ℕ) → zeroIn f u ≡ zeroIn g u
+zero-cong f g h zero = refl
+zero-cong f g h (suc u) = h (suc u)
+
+-- the largest of what lies below t, 0 inserted, in a set of times below n
+pub zero-below : (f x : ℕ → Bool) (n t none : ℕ) → 0 < n → 0 < t → ((u : ℕ) → n ≤ u → f u ≡ false) → ((u : ℕ) → x u ≡ zeroIn (λ v. ltb v t && f v) u)
+    → greatest x n none ≡ greatest (zeroIn f) t none
+zero-below f x n t none p l low e = go (decLt n t)
+  where
+    below : (u : ℕ) → u < t → x u ≡ zeroIn f u
+    below zero b = e 0
+    below (suc v) b = e (suc v) ∙ ap (λ y. y && f (suc v)) (lt-ltb (suc v) t b)
+
+    past : (u : ℕ) → t ≤ u → x u ≡ false
+    past zero b = absurd (omega arith)
+    past (suc v) b = e (suc v) ∙ ap (λ y. y && f (suc v)) (le-ltb (suc v) t b)
+
+    high : (u : ℕ) → n ≤ u → zeroIn f u ≡ false
+    high zero b = absurd (omega arith)
+    high (suc v) b = low (suc v) b
+
+    go : Dec (n < t) → greatest x n none ≡ greatest (zeroIn f) t none
+    go (yes a) = sym (greatest-cut (zeroIn f) x n t none (omega arith) (λ u b. sym (below u (omega arith))) high)
+    go (no a) = greatest-cut x (zeroIn f) t n none (omega arith) below past
 
 -- where 0 answers for an empty set it changes nothing
 

@@ -1,7 +1,8 @@
 // A set of times 0 to 63 in one word: t is in the set where bit t is one.
 ghost use mathlib.Core.Path.{_≡_};
-ghost use mathlib.Core.Bool.{false, _||_};
+ghost use mathlib.Core.Bool.{false, _||_, _&&_};
 ghost use Prim.Native.Nat.{ℕ, _<_};
+ghost use lib.Dec.{leb, ltb};
 ghost use Rattle.word.specs.Word.{bit, movedUp};
 ghost use Rattle.word.specs.Times.{count, least, greatest, noTime, zeroIn};
 
@@ -61,17 +62,48 @@ impl PcSet {
         63 - u64::leading_zeros(self.word)
     }
 
-    // The largest time strictly below t; 64 where there is none.
-    pub fn largest_below(self, t: u32) -> u32
-        ensures { λ r. ⌜ r ≡ greatest (bit (self .word)) t noTime ⌝ }
+    // The times strictly below t.
+    pub fn below(self, t: u32) -> PcSet
+        ensures { λ r. ⌜ ((u : ℕ) → bit (r .word) u ≡ ltb u t && bit (self .word) u) ⌝ }
     {
         if 64 <= t {
-            return self.most();
+            return self;
         }
-        let low = PcSet {
+        PcSet {
             word: self.word & ((1u64 << t) - 1),
-        };
-        low.most()
+        }
+    }
+
+    // The largest time strictly below t, with 0 inserted: what a step at time t reads a pin by.
+    pub fn largest_below(self, t: u32) -> u32
+        requires { ⌜ 0 < t ⌝ }
+        ensures { λ r. ⌜ r ≡ greatest (zeroIn (bit (self .word))) t noTime ⌝ }
+    {
+        self.below(t).with_zero().most()
+    }
+
+    // The times not below t.
+    pub fn not_below(self, t: u32) -> PcSet
+        ensures { λ r. ⌜ ((u : ℕ) → bit (r .word) u ≡ leb t u && bit (self .word) u) ⌝ }
+    {
+        if 64 <= t {
+            return PcSet { word: 0 };
+        }
+        PcSet {
+            word: self.word & !((1u64 << t) - 1),
+        }
+    }
+
+    // The set without its least time.
+    pub fn without_least(self) -> PcSet
+        ensures { λ r. ⌜ ((u : ℕ) → bit (r .word) u ≡ ltb (least (bit (self .word)) 64) u && bit (self .word) u) ⌝ }
+    {
+        if self.word == 0 {
+            return self;
+        }
+        PcSet {
+            word: self.word & (self.word - 1),
+        }
     }
 
     // Whether t is in the set; no time past 63 is.

@@ -5,7 +5,7 @@ use Prim.Native.Nat.{_-_, _≤_}
 use native.Mathlib.Omega.{arith}
 use borrow.Author.Needs.{needs}
 use Rattle.lists.specs.Listed.{listed}
-use Rattle.orders.proofs.Seen.{stands, marks-none, marks-more}
+use Rattle.step_orders.proofs.Seen.{stands, marks-none, marks-more}
 use Rattle.bench.proofs.among.Statement.{statement}
 use Rattle.bench.proofs.among.Tie as tie
 

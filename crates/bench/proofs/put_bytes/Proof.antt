@@ -6,7 +6,7 @@ use native.Mathlib.Omega.{arith}
 use borrow.Author.Needs.{needs}
 use Rattle.lists.specs.Filled.{filled}
 use Rattle.lists.proofs.Rooms.{filled-none, filled-turn, filled-keeps}
-use Rattle.bench.specs.Bench.{byteIn}
+use Rattle.bench.specs.Inner.Taken.{byteIn}
 use Rattle.bench.proofs.Bytes.{byte-at}
 use Rattle.bench.proofs.put_bytes.Statement.{statement}
 use Rattle.bench.proofs.put_bytes.Tie as tie

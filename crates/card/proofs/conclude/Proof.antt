@@ -17,6 +17,9 @@ refused-requires c κs = search needs
 enum-told : tie.Need-enum-told
 enum-told c = search needs
 
+input-nets-requires : tie.Need-input-nets-requires
+input-nets-requires c κs = search needs
+
 returns : tie.Need-returns
 returns c =
     let known = c .before .before in
@@ -27,10 +30,12 @@ returns c =
 
 returns-2 : tie.Need-returns-2
 returns-2 c =
-    let told = c .before .before .before .before .before .before in
+    let fed = c .before .before .before .before in
+    let told = fed .before .before .before in
     let wired = told .before .before in
     let a = wired .before .args in
     conclude-passed (a .old) (a .n) (a .kinds .now) (a .types .now) (a .counts .now) (a .places .now) (a .count) (a .inputs) (wired .wire .result) (wired .wire .ensures) (told .enum-told .given .1)
+    (fed .input-nets .result) (fed .input-nets .ensures)
 
 pub conclude-spec : {M : Type 1} → statement M
-conclude-spec = tie.close (tie.spec wire-requires enum-known-verdict refused-requires enum-told returns returns-2)
+conclude-spec = tie.close (tie.spec wire-requires enum-known-verdict refused-requires enum-told input-nets-requires returns returns-2)

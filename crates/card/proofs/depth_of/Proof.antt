@@ -2,7 +2,7 @@
 use mathlib.Core.Path.{_≡_, ap, _∙_}
 use mathlib.Core.Bool.{true}
 use borrow.Author.Tests.{not-true, not-false}
-use Rattle.wiring.specs.Wires.{highest}
+use Rattle.card_wiring.specs.Inner.Wires.{highest}
 use Rattle.card.specs.Held.{HasCard}
 use Rattle.card.specs.Asked.{depthAsked}
 use Rattle.card.proofs.Kept.{few, card-wires, card-fitting, depth-is}

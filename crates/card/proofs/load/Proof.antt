@@ -1,7 +1,7 @@
 -- `card::load` meets its contract: what cannot be read is refused, and a card that was read is judged from its arrays. Assumes nothing.
 use mathlib.Core.Path.{_∙_}
 use native.Mathlib.Omega.{arith}
-use Rattle.records.specs.Written.{Bytes}
+use Rattle.card_records.specs.Written.{Bytes}
 use Rattle.card.proofs.Reading.{load-stopped, load-wires, load-judged}
 use borrow.Author.Needs.{needs}
 use Rattle.card.proofs.load.Statement.{statement}

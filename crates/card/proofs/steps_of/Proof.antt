@@ -19,14 +19,14 @@ returns : tie.Need-returns
 unfolding stepsAsked
 returns c = rw (not-true (c .before .args .t1 .loaded) (c .if1 .taken))
 
-steps-of-requires : tie.Need-steps-of-requires
-steps-of-requires c κs = let e = c .before .before .before in order-fits (e .before .args .t1) (card e)
+sizes-of-requires : tie.Need-sizes-of-requires
+sizes-of-requires c κs = let e = c .before .before .before in order-fits (e .before .args .t1) (card e)
 
 returns-2 : tie.Need-returns-2
 unfolding stepsAsked
 returns-2 c =
     let e = c .before .before .before .before in
-    c .steps-of .ensures ∙ steps-is (e .before .args .t1) (card e) ∙ rw (loaded e)
+    c .sizes-of .ensures ∙ steps-is (e .before .args .t1) (card e) ∙ rw (loaded e)
 
 pub steps-of-spec : {M : Type 1} → statement M
-steps-of-spec = tie.close (tie.spec returns steps-of-requires returns-2)
+steps-of-spec = tie.close (tie.spec returns sizes-of-requires returns-2)

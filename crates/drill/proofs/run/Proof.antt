@@ -4,7 +4,7 @@ use Prim.Native.Nat.{_+_, _-_, _≤_}
 use native.Mathlib.Omega.{arith}
 use lib.ListN.{length}
 use Rattle.session.proofs.Kept.{none-good}
-use Rattle.drill.specs.Kept.{Kept}
+use Rattle.drill.specs.Inner.Kept.{Kept}
 use borrow.Author.Needs.{needs}
 use Rattle.drill.proofs.run.Statement.{statement}
 use Rattle.drill.proofs.run.Tie as tie

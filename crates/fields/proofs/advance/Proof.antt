@@ -2,7 +2,7 @@
 use mathlib.Core.Path.{ap, _∙_}
 use lib.ListN.{length, getD}
 use Rattle.lists.specs.Listed.{listed}
-use Rattle.fields.specs.Fields.{topsOf, passed}
+use Rattle.fields.specs.Inner.Fields.{topsOf, passed}
 use Rattle.fields.proofs.Fields.{length-put}
 use Rattle.fields.proofs.advance.Statement.{statement}
 use Rattle.fields.proofs.advance.Tie as tie

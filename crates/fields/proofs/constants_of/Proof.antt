@@ -10,7 +10,7 @@ use lib.ListN.{getD}
 use borrow.Author.Needs.{needs}
 use Rattle.lists.specs.Listed.{listed, upto}
 use Rattle.lists.proofs.Fills.{fill-none, fill-more, fill-skip, fill-all}
-use Rattle.fields.specs.Fields.{constantAt}
+use Rattle.fields.specs.Inner.Fields.{constantAt}
 use Rattle.fields.proofs.Fields.{constant-value, no-constant}
 use Rattle.fields.proofs.constants_of.Statement.{statement}
 use Rattle.fields.proofs.constants_of.Tie as tie

@@ -1,13 +1,10 @@
 -- `fields::field_of` meets its contract: the gate's field of what its pins come to. Assumes nothing.
-use mathlib.Core.Path.{_≡_, ap₂, _∙_}
+use mathlib.Core.Path.{ap₂, _∙_}
 use mathlib.Core.List.{map}
-use Prim.Native.Nat.{_<_}
 use native.Mathlib.Omega.{arith}
-use lib.ListN.{length, getD, length-map}
 use borrow.Author.Needs.{needs}
-use Rattle.lists.proofs.Listed.{length-listed}
-use Rattle.wiring.specs.Layout.{pinsAt}
-use Rattle.fields.specs.Fields.{fieldOf, pinWord}
+use Rattle.card_wiring.specs.Layout.{pinsAt}
+use Rattle.fields.specs.Inner.Fields.{fieldOf, pinWord}
 use Rattle.fields.proofs.Fields.{field-made}
 use Rattle.fields.proofs.field_of.Statement.{statement}
 use Rattle.fields.proofs.field_of.Tie as tie
@@ -41,17 +38,17 @@ field-requires c κs = search needs
 
 returns : tie.Need-returns
 returns c =
-    let s = c .before .before .before .before .before .before .before in
+    let top = c .before in
+    let gathered = top .before .before in
+    let rule = gathered .before in
+    let wide = rule .before in
+    let s = wide .before .before in
     let a = s .args in
-    let ty = c .before .before .before .before .before .wide .ensures in
-    let rule = c .before .before .before .before .rule-of in
+    let ty = wide .wide .ensures in
     let pins = pinsAt (a .counts .now) (a .places .now) (a .g) in
-    let words = map (pinWord (a .words .now)) pins in
-    let single : c .before .before .before .before .before .wide .result < 2 → length words ≡ 1 =
-    λ l. length-map pins (pinWord (a .words .now)) ∙ length-listed _ (getD (a .counts .now) (a .g) 0) ∙ s .pre .1 .1 .single (omega (arith, ty, l)) in
-    field-made (c .before .top .result) (rule .result .inversion) (c .before .before .before .before .before .wide .result) (c .before .before .before .gather .result) (c .field .result) words single (rule .ensures .1)
-    (c .before .before .before .gather .ensures) (omega (arith, c .field .ok)) (c .field .ensures)
-    ∙ ap₂ (λ low k. fieldOf low k words) (c .before .top .ensures) ty
+    field-made (a .words .now) (a .counts .now) (a .places .now) (a .g) (top .top .result) (rule .rule-of .result .inversion) (wide .wide .result) (gathered .gather .result) (c .field .result)
+    (λ l. s .pre .1 .1 .single (omega (arith, ty, l))) (rule .rule-of .ensures .1) (gathered .gather .ensures) (omega (arith, c .field .ok)) (c .field .ensures)
+    ∙ ap₂ (λ low k. fieldOf low k (map (pinWord (a .words .now)) pins)) (top .top .ensures) ty
 
 pub field-of-spec : {M : Type 1} → statement M
 field-of-spec =

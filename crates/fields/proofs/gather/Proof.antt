@@ -1,26 +1,23 @@
 -- `fields::gather` meets its contract. The loop's invariant: at every time the word has what the first j pins come to. The measure is what is left
--- of the pins. Assumes nothing.
-use mathlib.Core.Path.{_≡_, ap, ap₂, _∙_, subst}
-use mathlib.Core.Logic.{_⊎_}
-use Prim.Native.Nat.{ℕ, _+_, _-_, _*_, _≤_, _<_}
+-- of the eight places. Assumes nothing.
+use mathlib.Core.Path.{_≡_, ap, _∙_}
+use Prim.Native.Nat.{ℕ, _+_, _-_, _*_, _≤_}
 use native.Mathlib.Omega.{arith}
 use lib.ListN.{getD}
 use borrow.Author.Needs.{needs}
-use Rattle.lists.specs.Listed.{listed}
 use Rattle.word.specs.Word.{bit}
-use Rattle.gate.specs.Pins.{byPins, withPin}
-use Rattle.gate.proofs.Pins.{by-first, by-more}
-use Rattle.rule.specs.Net.{openPin, atPin}
-use Rattle.wiring.proofs.Pins.{pin-fitting}
-use Rattle.fields.proofs.Fields.{pin, gathered}
+use Rattle.rule.specs.Net.{atPin}
+use Rattle.card_wiring.proofs.Pins.{pin-fitting, first-fitting}
+use Rattle.card_wiring.proofs.Gathered.{firstPins, gather-first, gather-more, gather-all}
+use Rattle.fields.proofs.Fields.{pinBit}
 use Rattle.fields.proofs.gather.Statement.{statement}
 use Rattle.fields.proofs.gather.Tie as tie
 
 abbrev Inv-loop : tie.InvT-loop
-Inv-loop words counts places n ty rule g count «open» known₀ j₀ known j = (j ≤ count) × (count ≤ 8) × ((t : ℕ) → bit known t ≡ byPins ty (listed (pin words places g t) j))
+Inv-loop words counts places n ty rule g count «open» known₀ j₀ known j = (j ≤ count) × (count ≤ 8) × ((t : ℕ) → bit known t ≡ firstPins (pinBit words t) places g ty j)
 
 abbrev μ-loop : tie.MeasureT-loop
-μ-loop words counts places n ty rule g count «open» known₀ j₀ known j = count - j
+μ-loop words counts places n ty rule g count «open» known₀ j₀ known j = 8 - j
 
 element-copy-out-wide : tie.Need-element-copy-out-wide Inv-loop μ-loop
 element-copy-out-wide c = search needs
@@ -44,18 +41,22 @@ element-copy-out-at-pin c = search needs
 at-pin-requires : tie.Need-at-pin-requires Inv-loop μ-loop
 at-pin-requires c κs =
     let s = c .before .before .before .before in
-    let first : s .args .g * 8 + 0 ≡ s .args .g * 8 = omega arith in
-    subst (λ k. (getD (s .args .places .now) k 0 < 256) ⊎ (getD (s .args .places .now) k 0 ≡ openPin)) first
-    (pin-fitting (s .args .counts .now) (s .args .places .now) (s .args .n) (s .args .g) 0 (s .pre .0) (s .pre .1 .0) (s .pre .1 .1 .1))
+    first-fitting (s .args .counts .now) (s .args .places .now) (s .args .n) (s .args .g) (s .pre .0) (s .pre .1 .0) (s .pre .1 .1 .1)
 
 loop-holds : tie.Need-loop-holds Inv-loop μ-loop
 loop-holds c =
     let s = c .before .before .before .before .before in
     let a = s .args in
     let e = c .before .before .before .wide .ensures in
-    let first : a .g * 8 ≡ a .g * 8 + 0 = omega arith in
-    let word = c .at-pin .ensures ∙ ap₂ (λ loose k. atPin loose (λ m. getD (a .words .now) m 0) (getD (a .places .now) k 0)) (c .before .before .open-word .ensures) first in
-    (omega (arith, e, s .pre .1 .1 .1), omega (arith, s .pre .0 .narrow (a .g)), λ t. ap (λ w. bit w t) word ∙ by-first (a .ty) (pin (a .words .now) (a .places .now) (a .g) t))
+    let word = c .at-pin .ensures ∙ ap (λ loose. atPin loose (λ m. getD (a .words .now) m 0) (getD (a .places .now) (a .g * 8) 0)) (c .before .before .open-word .ensures) in
+    (omega (arith, e, s .pre .1 .1 .1), omega (arith, s .pre .0 .narrow (a .g)), λ t. gather-first (pinBit (a .words .now) t) (a .places .now) (a .g) (a .ty) _ (ap (λ w. bit w t) word))
+
+returns : tie.Need-returns Inv-loop μ-loop
+returns c t =
+    let s = c .before .before .before .before .before .before .before .before in
+    let l = c .before .before .loop in
+    let e = c .before .before .before .before .before .before .wide .ensures in
+    gather-all (pinBit (s .args .words .now) t) (s .args .places .now) (s .args .g) (s .args .ty) (s .args .counts .now) (l .j) (bit (l .known) t) (omega arith) (l .inv .2 t)
 
 mul-at-pin-3 : tie.Need-mul-at-pin-3 Inv-loop μ-loop
 mul-at-pin-3 c = search needs
@@ -71,12 +72,12 @@ element-copy-out-at-pin-2 c = search needs
 
 at-pin-requires-2 : tie.Need-at-pin-requires-2 Inv-loop μ-loop
 at-pin-requires-2 c κs =
-    let s = c .before .before .before .before .before .before .before .before in
-    let e = c .before .before .before .before .before .before .wide .ensures in
-    pin-fitting (s .args .counts .now) (s .args .places .now) (s .args .n) (s .args .g) (c .before .before .loop .j) (s .pre .0) (s .pre .1 .0) (omega arith)
+    let s = c .before .before .before .before .before .before .before .before .before in
+    let e = c .before .before .before .before .before .before .before .wide .ensures in
+    pin-fitting (s .args .counts .now) (s .args .places .now) (s .args .n) (s .args .g) (c .before .before .before .loop .j) (s .pre .0) (s .pre .1 .0) (omega arith)
 
 with-word-requires : tie.Need-with-word-requires Inv-loop μ-loop
-with-word-requires c κs = c .before .before .before .before .before .before .before .before .before .pre .1 .1 .2
+with-word-requires c κs = c .before .before .before .before .before .before .before .before .before .before .pre .1 .1 .2
 
 add-j : tie.Need-add-j Inv-loop μ-loop
 add-j c = search needs
@@ -86,21 +87,21 @@ loop-less c = search needs
 
 loop-again : tie.Need-loop-again Inv-loop μ-loop
 loop-again c =
-    let a = c .before .before .before .before .before .before .before .before .before .before .args in
-    let l = c .before .before .before .before .loop in
+    let a = c .before .before .before .before .before .before .before .before .before .before .before .args in
+    let l = c .before .before .before .before .before .loop in
     let p = getD (a .places .now) (a .g * 8 + l .j) 0 in
-    let word = c .before .at-pin2 .ensures ∙ ap (λ loose. atPin loose (λ m. getD (a .words .now) m 0) p) (c .before .before .before .before .before .before .before .open-word .ensures) in (
+    let word = c .before .at-pin2 .ensures ∙ ap (λ loose. atPin loose (λ m. getD (a .words .now) m 0) p) (c .before .before .before .before .before .before .before .before .open-word .ensures) in (
       omega arith,
       omega arith,
-      λ t. c .with-word .ensures t ∙ ap₂ (withPin (a .ty)) (l .inv .2 t) (ap (λ w. bit w t) word) ∙ by-more (a .ty) (pin (a .words .now) (a .places .now) (a .g) t) (l .j),
+      λ t. gather-more (pinBit (a .words .now) t) (a .places .now) (a .g) (a .ty) (l .j) _ _ _ (l .inv .2 t) (ap (λ w. bit w t) word) (c .with-word .ensures t),
     )
 
-returns : tie.Need-returns Inv-loop μ-loop
-returns c t =
+returns-2 : tie.Need-returns-2 Inv-loop μ-loop
+returns-2 c t =
     let s = c .before .before .before .before .before .before .before in
     let l = c .before .loop in
     let e = c .before .before .before .before .before .wide .ensures in
-    gathered (s .args .words .now) (s .args .counts .now) (s .args .places .now) (s .args .g) (s .args .ty) t (l .known) (l .j) (omega arith) (l .inv .2 t)
+    gather-all (pinBit (s .args .words .now) t) (s .args .places .now) (s .args .g) (s .args .ty) (s .args .counts .now) (l .j) (bit (l .known) t) (omega arith) (l .inv .2 t)
 
 pub gather-spec : {M : Type 1} → statement M
 gather-spec =
@@ -116,6 +117,7 @@ gather-spec =
     element-copy-out-at-pin
     at-pin-requires
     loop-holds
+    returns
     mul-at-pin-3
     add-at-pin
     mul-at-pin-4
@@ -125,4 +127,4 @@ gather-spec =
     add-j
     loop-less
     loop-again
-    returns)
+    returns-2)

@@ -7,8 +7,8 @@ use native.Mathlib.Omega.{arith}
 use lib.ListN.{getD}
 use borrow.Author.Needs.{needs}
 use Rattle.lists.specs.Listed.{listed}
-use Rattle.wiring.specs.Layout.{pinsAt}
-use Rattle.fields.specs.Fields.{Gates, fieldOf, pinWord, topsOf, passed}
+use Rattle.card_wiring.specs.Layout.{pinsAt}
+use Rattle.fields.specs.Inner.Fields.{Gates, fieldOf, pinWord, topsOf, passed}
 use Rattle.fields.proofs.Fields.{passed-none, passed-more, own-top}
 use Rattle.fields.proofs.pass.Statement.{statement}
 use Rattle.fields.proofs.pass.Tie as tie

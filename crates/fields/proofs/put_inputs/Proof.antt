@@ -4,7 +4,7 @@ use Prim.Native.Nat.{_-_, _≤_, _<_}
 use native.Mathlib.Omega.{arith}
 use lib.ListN.{length}
 use borrow.Author.Needs.{needs}
-use Rattle.fields.specs.Fields.{netsPut, byteWord}
+use Rattle.fields.specs.Inner.Fields.{netsPut, byteWord}
 use Rattle.fields.proofs.Fields.{put-none, put-more, byte-word}
 use Rattle.fields.proofs.put_inputs.Statement.{statement}
 use Rattle.fields.proofs.put_inputs.Tie as tie

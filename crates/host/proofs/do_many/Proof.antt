@@ -5,7 +5,7 @@ use native.Mathlib.Omega.{arith}
 use lib.ListN.{length}
 use borrow.Author.Needs.{needs}
 use Rattle.card.proofs.Kept.{nets-are, inputs-some}
-use Rattle.many.proofs.Many.{many-asks}
+use Rattle.host_many.proofs.Many.{many-asks}
 use Rattle.host.specs.Vectors.{manyDone}
 use Rattle.host.proofs.Vectors.{done-refused, done-all}
 use Rattle.host.proofs.do_many.Statement.{statement}

@@ -1,12 +1,10 @@
 -- `host::host_move` meets its contract: 18, 12, and then the operation. Assumes nothing.
 use mathlib.Core.Path.{sym, ap, subst, _∙_}
-use Prim.Native.Nat.{_≤_}
 use native.Mathlib.Omega.{arith}
-use lib.ListN.{length}
 use borrow.Author.Tests.{not-true, not-false}
 use Rattle.session.specs.Good.{Good}
-use Rattle.making.proofs.Making.{again-good}
-use Rattle.moves.specs.Operated.{operated}
+use Rattle.host_made.proofs.Making.{again-good}
+use Rattle.operations.specs.Operated.{operated}
 use Rattle.host.specs.Calls.{leftBy}
 use Rattle.host.proofs.Answering.{move-short, move-broken, move-left}
 use borrow.Author.Needs.{needs}
@@ -32,18 +30,16 @@ returns-2 : tie.Need-returns-2
 returns-2 c =
     let m = c .before .before .before in
     let e = m .before .before in
-    let start = e .before .before .before in
-    let a = start .args in
-    let long : 5895 ≤ length (a .b .now) = e .if1 .left in
-    move-broken (a .how) (a .b .now) (a .v .now) (c .pack2 .result) long (sym (ap (λ x. x .whole) (m .made-again .ensures)) ∙ not-true _ (c .before .if2 .taken)) (c .pack2 .ensures)
+    let a = e .before .before .before .args in
+    move-broken (a .how) (a .b .now) (a .v .now) (c .pack2 .result) (e .if1 .left)
+    (sym (ap (λ x. x .whole) (m .made-again .ensures)) ∙ not-true _ (c .before .if2 .taken))
+    (c .pack2 .ensures)
 
 operate-requires : tie.Need-operate-requires
 operate-requires c κs =
     let m = c .before .before in
     let e = m .before .before in
-    let start = e .before .before .before in
-    let a = start .args in
-    let long : 5895 ≤ length (a .b .now) = e .if1 .left in
+    let a = e .before .before .before .args in
     subst (λ x. Good (x .session)) (sym (m .made-again .ensures)) (again-good (a .b .now) (λ i. omega (arith, e .before .before .slice-known .given i)))
 
 left-by-requires : tie.Need-left-by-requires
@@ -56,14 +52,12 @@ returns-3 : tie.Need-returns-3
 returns-3 c =
     let m = c .before .before .before .before .before .before .before in
     let e = m .before .before in
-    let start = e .before .before .before in
-    let a = start .args in
-    let long : 5895 ≤ length (a .b .now) = e .if1 .left in
+    let a = e .before .before .before .args in
     let l = c .before .before in
     let o = l .before .before in
     l .left-by .ensures
     ∙ ap (λ x. leftBy (a .how) (x .answer) (a .b .now) (a .v .now)) (o .operate .ensures ∙ ap (λ x. operated (a .how) (x .session) (a .v .now)) (m .made-again .ensures))
-    ∙ move-left (a .how) (a .b .now) (a .v .now) long (sym (ap (λ x. x .whole) (m .made-again .ensures)) ∙ not-false _ (o .before .if2 .left))
+    ∙ move-left (a .how) (a .b .now) (a .v .now) (e .if1 .left) (sym (ap (λ x. x .whole) (m .made-again .ensures)) ∙ not-false _ (o .before .if2 .left))
 
 pub host-move-spec : {M : Type 1} → statement M
 host-move-spec =

@@ -1,12 +1,10 @@
 -- `host::krasvome_history` meets its contract: 18, 12, and then the history. Assumes nothing.
 use mathlib.Core.Path.{sym, ap, subst, _∙_}
-use Prim.Native.Nat.{_≤_}
 use native.Mathlib.Omega.{arith}
-use lib.ListN.{length}
 use borrow.Author.Tests.{not-true, not-false}
 use Rattle.session.specs.Good.{Good}
 use Rattle.history.specs.Told.{historyOf}
-use Rattle.making.proofs.Making.{again-good}
+use Rattle.host_made.proofs.Making.{again-good}
 use Rattle.host.proofs.Answering.{history-short, history-broken, history-shown}
 use borrow.Author.Needs.{needs}
 use Rattle.host.proofs.krasvome_history.Statement.{statement}
@@ -29,8 +27,7 @@ returns-2 c =
     let m = c .before .before .before in
     let e = m .before in
     let a = e .before .before .before .before .before .args in
-    let long : 5895 ≤ length (a .session .now) = e .if1 .left in
-    history-broken (a .session .now) (a .words .now) (a .befores .now) (a .flags .now) (c .pack2 .result) long
+    history-broken (a .session .now) (a .words .now) (a .befores .now) (a .flags .now) (c .pack2 .result) (e .if1 .left)
     (sym (ap (λ x. x .whole) (m .made-again .ensures)) ∙ not-true _ (c .before .if2 .taken))
     (c .pack2 .ensures)
 
@@ -39,7 +36,6 @@ history-requires c κs =
     let m = c .before .before .before .before .before in
     let e = m .before in
     let a = e .before .before .before .before .before .args in
-    let long : 5895 ≤ length (a .session .now) = e .if1 .left in
     subst (λ x. Good (x .session)) (sym (m .made-again .ensures)) (again-good (a .session .now) (λ i. omega (arith, e .before .before .before .before .shared-slice-known .given i)))
 
 pack-requires-3 : tie.Need-pack-requires-3
@@ -59,11 +55,10 @@ returns-3 c =
     let m = c .before .before .before .before .before .before .before .before .before .before .before .before .before in
     let e = m .before in
     let a = e .before .before .before .before .before .args in
-    let long : 5895 ≤ length (a .session .now) = e .if1 .left in
     let h = c .before .before .before .before .before .before .before in
     let f = h .before .before .before .before in
     let told = h .history .ensures ∙ ap (λ x. historyOf (x .session) (a .words .now) (a .befores .now) (a .flags .now)) (m .made-again .ensures) in
-    history-shown (a .session .now) (a .words .now) (a .befores .now) (a .flags .now) (c .pack3 .result) _ long
+    history-shown (a .session .now) (a .words .now) (a .befores .now) (a .flags .now) (c .pack3 .result) _ (e .if1 .left)
     (sym (ap (λ x. x .whole) (m .made-again .ensures)) ∙ not-false _ (f .if2 .left))
     told
     (c .pack3 .ensures)

@@ -10,7 +10,7 @@ use borrow.Author.Needs.{needs}
 use Rattle.lists.specs.Entries.{every}
 use Rattle.lists.specs.Listed.{listed}
 use Rattle.lists.proofs.Listed.{listed-none}
-use Rattle.wiring.proofs.Pins.{every-more}
+use Rattle.card_wiring.proofs.Pins.{every-more}
 use Rattle.inputs.specs.Inputs.{byteFits}
 use Rattle.inputs.specs.Allowed.{byteLimit}
 use Rattle.inputs.proofs.Vectors.{all-fit, one-unfit}

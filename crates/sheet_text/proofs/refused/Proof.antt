@@ -1,5 +1,5 @@
 -- `sheet_text::refused` meets its contract. Assumes nothing.
-use Rattle.sheet_text.specs.Pieces.{refusal}
+use Rattle.sheet_text.specs.Inner.Pieces.{refusedPiece}
 use Rattle.sheet_text.proofs.Steps.{hand-back}
 use borrow.Author.Needs.{needs}
 use Rattle.sheet_text.proofs.refused.Statement.{statement}
@@ -13,7 +13,7 @@ end-requires c κs = search needs
 
 returns : tie.Need-returns
 returns c =
-    hand-back (refusal (c .before .before .before .args .sheet) (c .before .before .before .args .why)) (c .end .ensures)
+    hand-back (refusedPiece (c .before .before .before .args .sheet) (c .before .before .before .args .why)) (c .end .ensures)
     (c .before .put-refused .ensures)
 
 pub refused-spec : {M : Type 1} → statement M

@@ -2,7 +2,7 @@
 use mathlib.Core.Path.{refl, ap, _∙_}
 use mathlib.Core.List.{[]}
 use Rattle.text.proofs.Texts.{put-none}
-use Rattle.sheet_text.specs.Pieces.{moved, restPiece}
+use Rattle.sheet_text.specs.Inner.Pieces.{movedSheet, restPiece}
 use Rattle.sheet_text.proofs.Steps.{hand-back, hand-on, refused-so, done-so}
 use borrow.Author.Needs.{needs}
 use Rattle.sheet_text.proofs.rest.Statement.{statement}
@@ -33,7 +33,7 @@ returns-2 c =
     let a = c .before .before .before .before .before .args in
     let m = c .before .before .before .rest .result in
     hand-on (a .out .now)
-    (done-so (m .answer) (a .sheet) (record { text = []; after = moved (a .sheet) (m .session) (a .next) (a .sheet .vectors) }) _
+    (done-so (m .answer) (a .sheet) (record { text = []; after = movedSheet (a .sheet) (m .session) (a .next) (a .sheet .vectors) }) _
     (c .enum-told .given .1)
     ∙ ap (restPiece (a .sheet) (a .next)) (c .before .before .before .rest .ensures))
     (hand-back _ refl (put-none _ _))

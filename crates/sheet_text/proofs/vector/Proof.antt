@@ -7,7 +7,7 @@ use Rattle.card.specs.Session.{cardOf}
 use Rattle.session.specs.Good.{Good}
 use Rattle.session.proofs.Kept.{vector-good, vector-card, vector-rests}
 use Rattle.sheet_text.specs.Lines.{vectorText}
-use Rattle.sheet_text.specs.Pieces.{moved, vectorPiece}
+use Rattle.sheet_text.specs.Inner.Pieces.{movedSheet, vectorPiece}
 use Rattle.sheet_text.proofs.Steps.{hand-back, hand-on, refused-so, done-so}
 use borrow.Author.Needs.{needs}
 use Rattle.sheet_text.proofs.vector.Statement.{statement}
@@ -61,7 +61,7 @@ returns-2 c =
     let m = c .before .before .before .before .before .before .vector .result in
     let k = a .sheet .vectors + 1 in
     hand-on (a .out .now)
-    (done-so (m .answer) (a .sheet) (record { text = vectorText k (m .session); after = moved (a .sheet) (m .session) (a .next) k }) _
+    (done-so (m .answer) (a .sheet) (record { text = vectorText k (m .session); after = movedSheet (a .sheet) (m .session) (a .next) k }) _
     (c .before .before .before .enum-told .given .1)
     ∙ ap (vectorPiece (a .sheet) (a .next)) (c .before .before .before .before .before .before .vector .ensures))
     (hand-back _ refl (c .put-vector .ensures))

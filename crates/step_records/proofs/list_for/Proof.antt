@@ -8,7 +8,7 @@ use borrow.Author.Tests.{not-true, not-false}
 use Rattle.rule.specs.Steps.{stepList}
 use Rattle.card.specs.Session.{cardOf}
 use Rattle.card.specs.Held.{HasCard}
-use Rattle.listing.proofs.Cards.{list-asked, list-held, list-total, list-few}
+use Rattle.step_list.proofs.Cards.{list-asked, list-held, list-total, list-few}
 use Rattle.step_records.proofs.Listings.{listing-none, listing-short, listing-made}
 use borrow.Author.Needs.{needs}
 use Rattle.step_records.proofs.list_for.Statement.{statement}

@@ -56,7 +56,8 @@ use Rattle.card.specs.declared.Session.{Session}
 use Rattle.card.proofs.Session as Se
 use Rattle.card.proofs.Session.Laws as Se′
 use Rattle.session.specs.Good.{Good}
-use Rattle.step_records.specs.Records.{blank, recordsIn, listingOf, recordsOf}
+use Rattle.step_records.specs.Records.{blankRecord, recordsIn, recordsOf}
+use Rattle.step_records.specs.Inner.Records.{listingOf}
 use Rattle.step_records.specs.declared.StepRecord.{StepRecord}
 use Rattle.step_records.specs.declared.Listing.{Listing}
 use Rattle.step_records.proofs.Listings.{copied, found-fits, found-copied}
@@ -206,13 +207,13 @@ module _ {M : Type 1} (𝓤 : URA M) (H : Heap 𝓤) (A : Atoms 𝓤) (W : Given
       in-records = let few : n ≤ 4096 = subst (λ (z : Listing). z .total ≤ 4096) (sym r-is) (found-fits s ys good .1) in omega (arith, size, few)
 
       abbrev taken : ℕ → StepRecord
-      taken e = getD xs e blank
+      taken e = getD xs e blankRecord
 
       abbrev F : ℕ → List StepRecord
       F i = recordsIn taken i ys
 
       same : length (F n) ≡ length ys
-      same = fills-length blank taken n ys
+      same = fills-length blankRecord taken n ys
 
       full : record { answer = r .answer; room = F n } ≡ recordsOf s ys
       full = ap (copied s ys) r-is ∙ found-copied s ys good
@@ -252,7 +253,7 @@ module _ {M : Type 1} (𝓤 : URA M) (H : Heap 𝓤) (A : Atoms 𝓤) (W : Given
         v = taken i
 
         in-lent : i < length (F i)
-        in-lent = omega (arith, small, in-room, fills-length blank taken i ys)
+        in-lent = omega (arith, small, in-room, fills-length blankRecord taken i ys)
 
         in-array : i < length xs
         in-array = omega (arith, small, in-records)
@@ -264,7 +265,7 @@ module _ {M : Type 1} (𝓤 : URA M) (H : Heap 𝓤) (A : Atoms 𝓤) (W : Given
         next-fits = omega (arith, n-fits, small)
 
         one-more : set (F i) i v ≡ F (i + 1)
-        one-more = fills-next blank taken i ys (F i) refl (omega (arith, small, in-room))
+        one-more = fills-next blankRecord taken i ys (F i) refl (omega (arith, small, in-room))
 
         -- a turn that writes one entry
         more : (X : SProp 𝓤) → ent 𝓤 (⋆ 𝓤 H A (At (i + 1))) X → ent 𝓤 (⋆ 𝓤 H A (At i)) (Wp 𝓤 H C Λ En code-mir.turn-1 (afterTurn 𝓤 H X Left))
@@ -283,10 +284,10 @@ module _ {M : Type 1} (𝓤 : URA M) (H : Heap 𝓤) (A : Atoms 𝓤) (W : Given
             (init ! 11 refl (tt, tt)) $
             rewrite ! 11 (λ (p : ℕ). ‵ (fat fullShare tyPtr l₁₁ 0 (vptr l₅ p))) (sym (place-is 4 0 i)) refl $
             move ! (4 ∷ []) $ elem-out ! S.the-row (Is S.the-row) (shows 𝓤 H A S.the-row) spelled
-            (LL.tells S.the-type S′.the-laws) fullShare xs i blank l₅ 0 in-array (λ is.
+            (LL.tells S.the-type S′.the-laws) fullShare xs i blankRecord l₅ 0 in-array (λ is.
             assigns ! (of-opd ! (load ! (from ! (hop ! (look ! 13 refl) (stop !))) (look-raw ! 0 refl))) (from ! (stop !))
             (init ! 11 refl (LL.lawful S.the-type S′.the-laws 𝓤 H A W .typed v _ is .0)) $
-            elem-back ! S.the-row fullShare xs i blank (spelled v) l₅ 0 in-array $
+            elem-back ! S.the-row fullShare xs i blankRecord (spelled v) l₅ 0 in-array $
             -- room[i]
             assigns ! (bin ! (load ! (from ! (stop !)) (look ! 21 refl)) (lit ! tt) (record { fits = four-fits })) (from ! (stop !))
             (init ! 7 refl (tt, record { fits = four-fits })) $
@@ -343,7 +344,7 @@ module _ {M : Type 1} (𝓤 : URA M) (H : Heap 𝓤) (A : Atoms 𝓤) (W : Given
           assigns ! (of-opd ! (lit ! tt)) (from ! (stop !)) (init ! 16 refl (tt, record { fits = lit< tt })) $
           move ! (18 ∷ []) $ use1 W (‵ (row S.the-row fullShare xs l₅ 0)) (apart 𝓤 H A W 4096 l₅ xs array array-is) $
           move ! (30 ∷ 31 ∷ 32 ∷ []) $ opens-slice ! tt S.the-row ys b o $
-          rewrite ! 0 (λ (zs : List StepRecord). ‵ (row S.the-row fullShare zs b o)) (fills-none blank taken ys) refl $
+          rewrite ! 0 (λ (zs : List StepRecord). ‵ (row S.the-row fullShare zs b o)) (fills-none blankRecord taken ys) refl $
           by ! loops
 
     -- the callee's result is put into its local

@@ -5,20 +5,21 @@ use Prim.Native.Nat.{_-_, _≤_}
 use native.Mathlib.Omega.{arith}
 use lib.ListN.{replicate, length-replicate}
 use Rattle.lists.proofs.Rooms.{fills-none, fills-next}
-use Rattle.step_records.specs.Records.{blank, recordIn, recordsIn}
+use Rattle.step_records.specs.Records.{blankRecord, recordsIn}
+use Rattle.step_records.specs.Inner.Records.{recordIn}
 use borrow.Author.Needs.{needs}
 use Rattle.step_records.proofs.records_of.Statement.{statement}
 use Rattle.step_records.proofs.records_of.Tie as tie
 
 abbrev Inv-loop : tie.InvT-loop
 Inv-loop nets times n out₀ i₀ out i =
-    (i ≤ n) × (out ≡ recordsIn (recordIn nets times) i (replicate 4096 blank))
+    (i ≤ n) × (out ≡ recordsIn (recordIn nets times) i (replicate 4096 blankRecord))
 
 abbrev μ-loop : tie.MeasureT-loop
 μ-loop nets times n out₀ i₀ out i = n - i
 
 loop-holds : tie.Need-loop-holds Inv-loop μ-loop
-loop-holds c = (omega arith, fills-none blank _ (replicate 4096 blank))
+loop-holds c = (omega arith, fills-none blankRecord _ (replicate 4096 blankRecord))
 
 mul-t8 : tie.Need-mul-t8 Inv-loop μ-loop
 mul-t8 c = search needs
@@ -46,8 +47,8 @@ loop-again c =
     let a = c .before .before .before .before .args in
     let l = c .before .before .before .loop in
     let f = recordIn (a .nets .now) (a .times .now) in
-    let e = length-replicate 4096 blank in
-    (omega arith, fills-next blank f (l .i) (replicate 4096 blank) (l .out) (l .inv .1) (omega (arith, e)))
+    let e = length-replicate 4096 blankRecord in
+    (omega arith, fills-next blankRecord f (l .i) (replicate 4096 blankRecord) (l .out) (l .inv .1) (omega (arith, e)))
 
 returns : tie.Need-returns Inv-loop μ-loop
 returns c =

@@ -4,7 +4,7 @@ use native.Mathlib.Omega.{arith}
 use lib.ListN.{length, take}
 use lib.Seq.{length-take-le, take-all}
 use borrow.Author.Needs.{needs}
-use Rattle.text.specs.Text.{Put}
+use Rattle.text.specs.Inner.Put.{Put}
 use Rattle.text.proofs.Texts.{put-none, put-same, put-more}
 use Rattle.text.proofs.put_word.Statement.{statement}
 use Rattle.text.proofs.put_word.Tie as tie

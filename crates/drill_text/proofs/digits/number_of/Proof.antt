@@ -4,14 +4,14 @@ use Prim.Native.Nat.{_+_, _*_, _-_, _^_, _≤_, _<_}
 use native.Mathlib.Omega.{arith}
 use lib.ListN.{length, getD, drop}
 use borrow.Author.Tests.{eq-eqb}
-use Rattle.drill_text.specs.Digits.{digitOf, spelledFrom, numberOf}
+use Rattle.drill_text.specs.Digits.{digitOf, spelledFrom, numberSpelled}
 use Rattle.drill_text.proofs.Spelling.{number-start, spelled-stop, spelled-over, spelled-on, spelled-end}
 use borrow.Author.Needs.{needs}
 use Rattle.drill_text.proofs.digits.number_of.Statement.{statement}
 use Rattle.drill_text.proofs.digits.number_of.Tie as tie
 
 abbrev Inv-loop : tie.InvT-loop
-Inv-loop word value₀ i₀ value i = (i ≤ length word) × (value < 2 ^ 64) × (spelledFrom value (drop i word) ≡ numberOf word)
+Inv-loop word value₀ i₀ value i = (i ≤ length word) × (value < 2 ^ 64) × (spelledFrom value (drop i word) ≡ numberSpelled word)
 
 abbrev μ-loop : tie.MeasureT-loop
 μ-loop word value₀ i₀ value i = length word - i
@@ -21,7 +21,7 @@ digit : (c : tie.After-wide Inv-loop μ-loop) → c .wide .result ≡ digitOf (g
 digit c = c .wide .ensures ∙ c .before .digit-of .ensures .0
 
 returns : tie.Need-returns Inv-loop μ-loop
-unfolding numberOf
+unfolding numberSpelled
 returns c = rw (eq-eqb (length (c .before .before .args .word .now)) 0 (c .if1 .taken))
 
 loop-holds : tie.Need-loop-holds Inv-loop μ-loop

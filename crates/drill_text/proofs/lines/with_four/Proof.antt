@@ -1,7 +1,7 @@
 -- A line of five words: `withFour`, at the tests that led there. Assumes nothing.
 use mathlib.Core.Path.{sym, ap₂, _∙_}
 use borrow.Author.Tests.{not-true, not-false}
-use Rattle.drill_text.specs.Lines.{benchOf, withFour}
+use Rattle.drill_text.specs.Lines.{asBench, withFour}
 use borrow.Author.Needs.{needs}
 use Rattle.drill_text.proofs.lines.with_four.Statement.{statement}
 use Rattle.drill_text.proofs.lines.with_four.Tie as tie
@@ -42,7 +42,7 @@ bench-of-requires c κs = search needs
 returns-4 : tie.Need-returns-4
 unfolding withFour
 returns-4 c =
-    c .bench-of .ensures ∙ ap₂ benchOf (c .before .before .number-of .ensures) (c .before .room-of .ensures)
+    c .bench-of .ensures ∙ ap₂ asBench (c .before .before .number-of .ensures) (c .before .room-of .ensures)
     ∙ rw (sym (c .before .before .before .before .before .before .before .before .same .ensures) ∙ not-false _ (c .before .before .before .before .before .before .before .if1 .left), sym (c .before .before .before .before .before .before .is-hex .ensures) ∙ not-false _ (c .before .before .before .before .before .if2 .left), sym (c .before .before .before .before .is-order .ensures) ∙ not-false _ (c .before .before .before .if3 .left))
 
 pub with-four-spec : {M : Type 1} → statement M

@@ -2,7 +2,7 @@
 use mathlib.Core.Path.{_≡_, sym, ap, _∙_}
 use mathlib.Core.Bool.{false}
 use Rattle.text.specs.Text.{sameText}
-use Rattle.drill_text.specs.Lines.{load, rest, vector, steps, records, net, recordsOf, netOf, withOne}
+use Rattle.drill_text.specs.Lines.{load, rest, vector, steps, records, net, asRecords, asNet, withOne}
 use borrow.Author.Needs.{needs}
 use Rattle.drill_text.proofs.lines.with_one.Statement.{statement}
 use Rattle.drill_text.proofs.lines.with_one.Tie as tie
@@ -93,7 +93,7 @@ records-of-requires c κs = search needs
 
 returns-5 : tie.Need-returns-5
 unfolding withOne
-returns-5 c = c .records-of .ensures ∙ ap recordsOf (c .before .room-of .ensures) ∙ rw (no-load (c .before .before .before .before .before .before .before .before .before .before .before .before .before .before), no-rest (c .before .before .before .before .before .before .before .before .before .before .before), no-vector (c .before .before .before .before .before .before .before .before), no-steps (c .before .before .before .before .before), sym (c .before .before .before .same5 .ensures) ∙ c .before .before .if5 .taken)
+returns-5 c = c .records-of .ensures ∙ ap asRecords (c .before .room-of .ensures) ∙ rw (no-load (c .before .before .before .before .before .before .before .before .before .before .before .before .before .before), no-rest (c .before .before .before .before .before .before .before .before .before .before .before), no-vector (c .before .before .before .before .before .before .before .before), no-steps (c .before .before .before .before .before), sym (c .before .before .before .same5 .ensures) ∙ c .before .before .if5 .taken)
 
 slice-aggregate-same-6 : tie.Need-slice-aggregate-same-6
 slice-aggregate-same-6 c = search needs
@@ -109,7 +109,7 @@ net-of-requires c κs = search needs
 
 returns-6 : tie.Need-returns-6
 unfolding withOne
-returns-6 c = c .net-of .ensures ∙ ap netOf (c .before .number-of .ensures) ∙ rw (no-load (c .before .before .before .before .before .before .before .before .before .before .before .before .before .before .before .before .before), no-rest (c .before .before .before .before .before .before .before .before .before .before .before .before .before .before), no-vector (c .before .before .before .before .before .before .before .before .before .before .before), no-steps (c .before .before .before .before .before .before .before .before), no-records (c .before .before .before .before .before), sym (c .before .before .before .same6 .ensures) ∙ c .before .before .if6 .taken)
+returns-6 c = c .net-of .ensures ∙ ap asNet (c .before .number-of .ensures) ∙ rw (no-load (c .before .before .before .before .before .before .before .before .before .before .before .before .before .before .before .before .before), no-rest (c .before .before .before .before .before .before .before .before .before .before .before .before .before .before), no-vector (c .before .before .before .before .before .before .before .before .before .before .before), no-steps (c .before .before .before .before .before .before .before .before), no-records (c .before .before .before .before .before), sym (c .before .before .before .same6 .ensures) ∙ c .before .before .if6 .taken)
 
 returns-7 : tie.Need-returns-7
 unfolding withOne

@@ -1,6 +1,6 @@
 -- A line of three words: `withTwo`, at the name that it was compared with. Assumes nothing.
 use mathlib.Core.Path.{sym, ap₂, _∙_}
-use Rattle.drill_text.specs.Lines.{listOf, withTwo}
+use Rattle.drill_text.specs.Lines.{asList, withTwo}
 use borrow.Author.Needs.{needs}
 use Rattle.drill_text.proofs.lines.with_two.Statement.{statement}
 use Rattle.drill_text.proofs.lines.with_two.Tie as tie
@@ -22,7 +22,7 @@ list-of-requires c κs = search needs
 
 returns : tie.Need-returns
 unfolding withTwo
-returns c = c .list-of .ensures ∙ ap₂ listOf (c .before .before .room-of .ensures) (c .before .room-of2 .ensures) ∙ rw (sym (c .before .before .before .before .same .ensures) ∙ c .before .before .before .if1 .taken)
+returns c = c .list-of .ensures ∙ ap₂ asList (c .before .before .room-of .ensures) (c .before .room-of2 .ensures) ∙ rw (sym (c .before .before .before .before .same .ensures) ∙ c .before .before .before .if1 .taken)
 
 returns-2 : tie.Need-returns-2
 unfolding withTwo

@@ -4,7 +4,7 @@ use Prim.Native.Nat.{_+_, _-_, _≤_}
 use native.Mathlib.Omega.{arith}
 use lib.ListN.{length}
 use Rattle.drill_text.specs.Parts.{partsFrom}
-use Rattle.drill_text.specs.Orders.{entries, orderOf}
+use Rattle.drill_text.specs.Orders.{entries, orderSpelled}
 use Rattle.drill_text.proofs.Filling.{Filling}
 use Rattle.drill_text.proofs.Ordering.{dash-none, entries-start, entries-more, entries-end}
 use borrow.Author.Needs.{needs}
@@ -12,7 +12,7 @@ use Rattle.drill_text.proofs.orders.order_into.Statement.{statement}
 use Rattle.drill_text.proofs.orders.order_into.Tie as tie
 
 abbrev Inv-loop : tie.InvT-loop
-Inv-loop word out₀ n₀ from₀ out n from = (n ≤ from) × (from ≤ length word + 1) × Filling (orderOf word) out₀ out n (entries (partsFrom 44 word from))
+Inv-loop word out₀ n₀ from₀ out n from = (n ≤ from) × (from ≤ length word + 1) × Filling (orderSpelled word) out₀ out n (entries (partsFrom 44 word from))
 
 abbrev μ-loop : tie.MeasureT-loop
 μ-loop word out₀ n₀ from₀ out n from = length word + 1 - from

@@ -6,7 +6,7 @@ use native.Mathlib.Omega.{arith}
 use borrow.Author.Needs.{needs}
 use lib.ListN.{getD}
 use Rattle.lists.specs.Entries.{each, from}
-use Rattle.text.specs.Text.{Put}
+use Rattle.text.specs.Inner.Put.{Put}
 use Rattle.text.proofs.Texts.{put-none, put-same}
 use Rattle.sheet_text.specs.Lines.{netLine}
 use Rattle.sheet_text.proofs.Lengths.{lines-more}

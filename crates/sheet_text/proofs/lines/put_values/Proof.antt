@@ -6,7 +6,8 @@ use borrow.Author.Needs.{needs}
 use Rattle.lists.specs.Listed.{listed}
 use Rattle.lists.proofs.Listed.{length-listed, listed-none}
 use Rattle.word.specs.Word.{bit, val}
-use Rattle.text.specs.Text.{digit, Put}
+use Rattle.text.specs.Text.{digit}
+use Rattle.text.specs.Inner.Put.{Put}
 use Rattle.text.proofs.Texts.{put-none, put-same}
 use Rattle.sheet_text.specs.Lines.{values}
 use Rattle.sheet_text.proofs.Lengths.{values-more}

@@ -1,0 +1,5 @@
+pub mod Bytes
+pub mod Scan
+pub mod Written
+pub mod Stopped
+pub mod Inner

@@ -1,0 +1,84 @@
+-- `host_made::made_again` meets its contract. Assumes nothing.
+use mathlib.Core.Path.{sym, ap, ap₂, _∙_}
+use borrow.Author.Tests.{not-true, not-false}
+use Rattle.host_made.specs.Made.{madeLoaded}
+use Rattle.host_made.proofs.Making.{again-none, again-long, again-unclear, again-loaded}
+use borrow.Author.Needs.{needs}
+use Rattle.host_made.proofs.made_again.Statement.{statement}
+use Rattle.host_made.proofs.made_again.Tie as tie
+
+shared-slice-read-if1 : tie.Need-shared-slice-read-if1
+shared-slice-read-if1 c = search needs
+
+is-clear-requires : tie.Need-is-clear-requires
+is-clear-requires c κs = search needs
+
+empty-requires : tie.Need-empty-requires
+empty-requires c κs = search needs
+
+returns : tie.Need-returns
+returns c =
+    let b = c .before .before .before .before .before .args .b .now in
+    ap₂ (λ w s. record { whole = w; session = s }) (c .before .is-clear .ensures) (c .empty .ensures) ∙ again-none b (c .before .before .if1 .taken)
+
+u16-at-requires : tie.Need-u16-at-requires
+u16-at-requires c κs = search needs
+
+broken-session-requires : tie.Need-broken-session-requires
+broken-session-requires c κs = search needs
+
+returns-2 : tie.Need-returns-2
+returns-2 c =
+    let u = c .before .before in
+    let b = u .before .before .before .before .args .b .now in
+    let e = u .u16-at .ensures .0 in
+    c .broken-session .ensures ∙ again-long b (u .before .if1 .left) (rw e at (c .before .if2 .taken))
+
+add-is-clear : tie.Need-add-is-clear
+add-is-clear c = search needs
+
+is-clear-requires-2 : tie.Need-is-clear-requires-2
+is-clear-requires-2 c κs = search needs
+
+broken-session-requires-2 : tie.Need-broken-session-requires-2
+broken-session-requires-2 c κs = search needs
+
+returns-3 : tie.Need-returns-3
+returns-3 c =
+    let u = c .before .before .before .before in
+    let b = u .before .before .before .before .args .b .now in
+    let e = u .u16-at .ensures .0 in
+    let t = rw e at (c .before .before .is-clear2 .ensures) in
+    let l = rw e at (c .before .before .before .if2 .left) in
+    c .broken-session2 .ensures ∙ again-unclear b (u .before .if1 .left) l (sym t ∙ not-true _ (c .before .if3 .taken))
+
+made-loaded-requires : tie.Need-made-loaded-requires
+made-loaded-requires c κs = search needs
+
+returns-4 : tie.Need-returns-4
+returns-4 c =
+    let u = c .before .before .before .before in
+    let b = u .before .before .before .before .args .b .now in
+    let e = u .u16-at .ensures .0 in
+    let t = rw e at (c .before .before .is-clear2 .ensures) in
+    let l = rw e at (c .before .before .before .if2 .left) in
+    c .made-loaded .ensures ∙ ap (madeLoaded b) e
+    ∙ again-loaded b (u .before .if1 .left) l (sym t ∙ not-false _ (c .before .if3 .left))
+
+pub made-again-spec : {M : Type 1} → statement M
+made-again-spec =
+    tie.close
+    (tie.spec
+    shared-slice-read-if1
+    is-clear-requires
+    empty-requires
+    returns
+    u16-at-requires
+    broken-session-requires
+    returns-2
+    add-is-clear
+    is-clear-requires-2
+    broken-session-requires-2
+    returns-3
+    made-loaded-requires
+    returns-4)

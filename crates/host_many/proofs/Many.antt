@@ -1,0 +1,237 @@
+-- Many vectors, one after another: the places of their bytes and words, and one vector more. Assumes nothing.
+use mathlib.Core.Path.{_≡_, refl, sym, ap, ap₂, _∙_, subst}
+use mathlib.Core.Bool.{Bool, true, false, cond}
+use mathlib.Core.List.{List}
+use Prim.Native.Nat.{ℕ, zero, suc, _+_, _-_, _*_, _/_, _%_, _<_, _≤_}
+use native.Mathlib.Nat.{le-div-iff-mul-le, div-lt-iff-lt-mul}
+use native.Mathlib.Omega.{arith}
+use lib.Dec.{eqb, leb}
+use lib.ListN.{length, getD}
+use borrow.Author.Tests.{eq-eqb, ne-eqb, lt-leb, le-leb, leb-true, ltb-true}
+use Rattle.lists.specs.Entries.{_∈_, every}
+use Rattle.lists.specs.Listed.{listed}
+use Rattle.lists.specs.Places.{part, area}
+use Rattle.lists.proofs.Tests.{every-at}
+use Rattle.lists.proofs.Order.{at-in}
+use Rattle.lists.proofs.Listed.{length-listed, out-listed}
+use Rattle.lists.proofs.Places.{turn-next, turn-fits, length-area, part-listed}
+use Rattle.rule.specs.Steps.{stepList}
+use Rattle.rule.specs.Numbers.{answerCount}
+use Rattle.rule.specs.declared.Refusal.the-variants.{NotReady, VectorLength, VectorByte, NoRoom}
+use Rattle.rule.specs.declared.Answer.the-variants.{Done, Refused}
+use Rattle.inputs.specs.Allowed.{byteLimit, Vector}
+use Rattle.inputs.specs.Inputs.{byteFits, given}
+use Rattle.fields.specs.Inner.Fields.{advanced}
+use Rattle.card.specs.declared.Session.{Session}
+use Rattle.card.specs.Session.{cardOf, resting}
+use Rattle.session.specs.Good.{Good, histories}
+use Rattle.session.specs.Moves.{movedBy, vectorOf}
+use Rattle.session.proofs.Moving.{words-move}
+use Rattle.session.proofs.Refusals.{vector-takes}
+use Rattle.operations.specs.declared.Engine.{Engine}
+use Rattle.operations.specs.declared.Engine.the-variants.{Fields, Steps}
+use Rattle.operations.specs.Operated.{vectorBy}
+use Rattle.operations.proofs.Engines.{same-session, by-good, countBy, by-takes}
+use Rattle.host_many.specs.Many.{manyBy, manyJudged, keptAt, keptMany}
+
+-- one vector more
+pub many-more : (engine : Engine) (s : Session) (vs : List ℕ) (n j : ℕ) (room : List ℕ)
+    → manyBy engine s vs n (j + 1) room
+    ≡ (let ran = manyBy engine s vs n j room in
+    let next = vectorBy engine (ran .session) (part vs (j * n) n) in
+    record { session = next .session; count = answerCount (next .answer); words = area (ran .words) (j * s .nets) (j * s .nets + s .nets) (next .session .words) })
+unfolding manyBy
+many-more engine s vs n j room = let e : j + 1 ≡ suc j = omega arith in ap (λ k. manyBy engine s vs n k room) e ∙ step
+  where
+    step : manyBy engine s vs n (suc j) room
+        ≡ (let ran = manyBy engine s vs n j room in
+        let next = vectorBy engine (ran .session) (part vs (j * n) n) in
+        record { session = next .session; count = answerCount (next .answer); words = area (ran .words) (j * s .nets) (j * s .nets + s .nets) (next .session .words) })
+    step = refl
+
+pub many-length : (engine : Engine) (s : Session) (vs : List ℕ) (n k : ℕ) (room : List ℕ) → length (manyBy engine s vs n k room .words) ≡ length room
+unfolding manyBy
+many-length engine s vs n zero room = refl
+many-length engine s vs n (suc k) room = length-area _ _ _ _ ∙ many-length engine s vs n k room
+
+-- a good session is left, whatever the bytes
+pub many-good : (engine : Engine) (s : Session) → Good s → (vs : List ℕ) (n k : ℕ) (room : List ℕ) → Good (manyBy engine s vs n k room .session)
+unfolding manyBy
+many-good engine s g vs n zero room = g
+many-good engine s g vs n (suc k) room = by-good engine (manyBy engine s vs n k room .session) (many-good engine s g vs n k room) (part vs (k * n) n)
+
+-- a vector's bytes, of many that fit
+pub many-vector : (vs : List ℕ) (n j : ℕ) → every byteFits vs ≡ true → j * n + n ≤ length vs → Vector n (part vs (j * n) n)
+many-vector vs n j fits l = record { size = ap length is ∙ length-listed byte n; bits = bits }
+  where
+    byte : ℕ → ℕ
+    byte i = getD vs (j * n + i) 0
+
+    is : part vs (j * n) n ≡ listed byte n
+    is = part-listed vs (j * n) n l
+
+    bits : (b : ℕ) → b ∈ part vs (j * n) n → b < byteLimit
+    bits b m =
+        let o = out-listed byte n b (subst (λ xs. b ∈ xs) is m) in
+        let i = o .0 in
+        let low = ltb-true (byte i) byteLimit (every-at byteFits vs fits (byte i) (at-in vs (j * n + i) 0 (omega (arith, o .1)))) in
+        omega (arith, o .2, low)
+
+-- Many vectors that fit, on a rested session: it keeps its card
+
+module _ (engine : Engine) (s : Session) (g : Good s) (r : s .rested ≡ true) (vs room : List ℕ) (fits : every byteFits vs ≡ true) where
+  abbrev left : ℕ → Session
+  left j = manyBy engine s vs (s .inputs) j room .session
+
+  abbrev bytes : ℕ → List ℕ
+  bytes j = part vs (j * s .inputs) (s .inputs)
+
+  pub record Left (z : Session) : Type 0 where
+    pub good : Good z
+    pub same : z ≡ resting s true (z .before) (z .words)
+
+  -- a session so left takes a vector that fits
+  left-takes : (z : Session) → Left z → (v : List ℕ) → Vector (s .inputs) v
+      → vectorBy engine z v ≡ record { answer = Done (countBy engine z); session = movedBy z (given (z .kinds) v) }
+  left-takes z h v w = by-takes engine z (h .good) (ap (λ x. x .rested) (h .same)) v (subst (λ x. Vector (x .inputs) v) (sym (h .same)) w)
+
+  next-left : (z : Session) → Left z → (v : List ℕ) → Vector (s .inputs) v → Left (vectorBy engine z v .session)
+  unfolding movedBy
+  next-left z h v w =
+      let m = movedBy z (given (z .kinds) v) in
+      let e : vectorBy engine z v .session ≡ m = ap (λ x. x .session) (left-takes z h v w) in
+      record {
+        good = by-good engine z (h .good) v;
+        same = e ∙ ap (λ x. resting x (x .rested) (m .before) (m .words)) (h .same) ∙ sym (ap (λ x. resting s true (x .before) (x .words)) e);
+      }
+
+  next-fits : (j : ℕ) → suc j * s .inputs ≤ length vs → j * s .inputs + s .inputs ≤ length vs
+  next-fits j l = let e : j + 1 ≡ suc j = omega arith in omega (arith, turn-next j (s .inputs), ap (λ k. k * s .inputs) e, l)
+
+  pub many-left : (j : ℕ) → j * s .inputs ≤ length vs → Left (left j)
+  unfolding manyBy
+  many-left zero l = record { good = g; same = ap (λ b. resting s b (s .before) (s .words)) r }
+  many-left (suc j) l =
+      let l′ = next-fits j l in
+      next-left (left j) (many-left j (omega (arith, l′))) (bytes j) (many-vector vs (s .inputs) j fits l′)
+
+  pub left-long : (j : ℕ) → j * s .inputs ≤ length vs → length (left j .words) ≡ 256
+  unfolding histories
+  left-long j l = let h = many-left j l in let held = h .good .rest (ap (λ x. x .rested) (h .same)) .1 in ap length (held .words-are) ∙ length-listed _ 256
+
+  -- each vector is done, with the count that the card has by the engine
+  next-count : (j : ℕ) → j * s .inputs + s .inputs ≤ length vs → vectorBy engine (left j) (bytes j) .answer ≡ Done (countBy engine s)
+  unfolding cardOf
+  next-count j l =
+      let h = many-left j (omega (arith, l)) in
+      ap (λ m. m .answer) (left-takes (left j) h (bytes j) (many-vector vs (s .inputs) j fits l)) ∙ ap Done (by engine h)
+    where
+      by : (e : Engine) → Left (left j) → countBy e (left j) ≡ countBy e s
+      by Fields h = refl
+      by Steps h = ap (λ x. length (stepList (cardOf x))) (h .same)
+
+  ran-count : (k : ℕ) → suc k * s .inputs ≤ length vs → manyBy engine s vs (s .inputs) (suc k) room .count ≡ countBy engine s
+  unfolding manyBy
+  ran-count k l = ap answerCount (next-count k (next-fits k l))
+
+  -- so the count of many is that of every one of them
+  pub each-count : (k j : ℕ) → j < k → k * s .inputs ≤ length vs → vectorBy engine (left j) (bytes j) .answer ≡ Done (manyBy engine s vs (s .inputs) k room .count)
+  each-count zero j b l = absurd (omega arith)
+  each-count (suc k) j b l = next-count j (turn-fits j (suc k) (s .inputs) (length vs) b l) ∙ ap Done (sym (ran-count k l))
+
+  -- by either engine the same sessions and words
+  pub many-same : (k : ℕ) → k * s .inputs ≤ length vs
+      → (left k ≡ manyBy Fields s vs (s .inputs) k room .session) × (manyBy engine s vs (s .inputs) k room .words ≡ manyBy Fields s vs (s .inputs) k room .words)
+  unfolding manyBy
+  many-same zero l = (refl, refl)
+  many-same (suc k) l =
+      let l′ = next-fits k l in
+      let so-far = many-same k (omega (arith, l′)) in
+      let next = same-session engine (left k) (many-left k (omega (arith, l′)) .good) (bytes k) ∙ ap (λ z. vectorOf z (bytes k) .session) (so-far .0) in
+      (next, (λ i. area (so-far .1 i) (k * s .nets) (k * s .nets + s .nets) (next i .words)))
+
+-- by fields the words alone go from one vector to the next
+module _ (s : Session) (g : Good s) (r : s .rested ≡ true) (vs room : List ℕ) (fits : every byteFits vs ≡ true) where
+  pub next-words : (j : ℕ) → j * s .inputs + s .inputs ≤ length vs
+      → (let z = manyBy Fields s vs (s .inputs) j room .session in
+      let v = part vs (j * s .inputs) (s .inputs) in
+      advanced (s .feeds) (s .types) (s .counts) (s .places) (listed (λ i. getD (s .order) i 0) (s .gates)) (z .words) v ≡ vectorOf z v .session .words)
+  next-words j l =
+      let h = many-left Fields s g r vs room fits j (omega (arith, l)) in
+      let z = manyBy Fields s vs (s .inputs) j room .session in
+      let v = part vs (j * s .inputs) (s .inputs) in
+      let rested : z .rested ≡ true = ap (λ x. x .rested) (h .same) in
+      let w : Vector (z .inputs) v = subst (λ x. Vector (x .inputs) v) (sym (h .same)) (many-vector vs (s .inputs) j fits l) in
+      let held = h .good .rest rested in
+      sym (ap (λ x. advanced (x .feeds) (x .types) (x .counts) (x .places) (listed (λ i. getD (x .order) i 0) (x .gates)) (z .words) v) (h .same))
+      ∙ words-move z (h .good .card (held .0)) (held .1) v (w .size)
+      ∙ sym (ap (λ x. x .session .words) (vector-takes z v rested w))
+
+  -- and the count is 0
+  pub fields-count : (k : ℕ) → k * s .inputs ≤ length vs → manyBy Fields s vs (s .inputs) k room .count ≡ 0
+  unfolding manyBy
+  fields-count zero l = refl
+  fields-count (suc k) l = ran-count Fields s g r vs room fits k l
+
+-- What is kept
+
+pub kept-none : (e : Engine) (b vs : List ℕ) (n k : ℕ) → k ≡ 0 → b ≡ keptMany e b vs n k
+unfolding keptMany
+kept-none e b vs n k q = ap (keptMany e b vs n) (sym q)
+
+pub kept-one : (e : Engine) (b vs : List ℕ) (n k : ℕ) → k ≡ 1 → keptAt e b vs n 0 ≡ keptMany e b vs n k
+unfolding keptMany
+kept-one e b vs n k q = ap (keptMany e b vs n) (sym q)
+
+pub kept-two : (e : Engine) (b vs : List ℕ) (n k : ℕ) → ¬ (k ≡ 0) → ¬ (k ≡ 1) → keptAt e (keptAt e b vs n (k - 2)) vs n (k - 1) ≡ keptMany e b vs n k
+unfolding keptMany
+kept-two e b vs n zero x y = absurd (x refl)
+kept-two e b vs n (suc zero) x y = absurd (y refl)
+kept-two e b vs n (suc (suc k)) x y =
+    let two : suc (suc k) - 2 ≡ k = omega arith in
+    let one : suc (suc k) - 1 ≡ suc k = omega arith in
+    ap₂ (λ i j. keptAt e (keptAt e b vs n i) vs n j) two one
+
+-- The judgement
+
+module _ (s : Session) (vs : List ℕ) (room : ℕ) where
+  abbrev count : ℕ
+  count = length vs / s .inputs
+
+  pub many-12 : s .rested ≡ false → Refused NotReady ≡ manyJudged s vs room
+  unfolding manyJudged
+  many-12 e = rw e
+
+  pub many-10 : s .rested ≡ true → ¬ (length vs % s .inputs ≡ 0) → Refused VectorLength ≡ manyJudged s vs room
+  unfolding manyJudged
+  many-10 e n = rw (e, ne-eqb (length vs % s .inputs) 0 n)
+
+  pub many-11 : s .rested ≡ true → length vs % s .inputs ≡ 0 → every byteFits vs ≡ false → Refused VectorByte ≡ manyJudged s vs room
+  unfolding manyJudged
+  many-11 e z f = rw (e, eq-eqb (length vs % s .inputs) 0 z, f)
+
+  pub many-18 : s .rested ≡ true → length vs % s .inputs ≡ 0 → every byteFits vs ≡ true → 0 < s .nets → room / s .nets < count → Refused NoRoom ≡ manyJudged s vs room
+  unfolding manyJudged
+  many-18 e z f p l =
+      let much : room < count * s .nets = div-lt-iff-lt-mul p .0 l in
+      rw (e, eq-eqb (length vs % s .inputs) 0 z, f, lt-leb (count * s .nets) room much)
+
+  pub many-0 : s .rested ≡ true → length vs % s .inputs ≡ 0 → every byteFits vs ≡ true → 0 < s .nets → count ≤ room / s .nets → Done count ≡ manyJudged s vs room
+  unfolding manyJudged
+  many-0 e z f p l =
+      let fits : count * s .nets ≤ room = le-div-iff-mul-le p .0 l in
+      rw (e, eq-eqb (length vs % s .inputs) 0 z, f, le-leb (count * s .nets) room fits)
+
+  -- what a judgement that is done says
+  pub many-asks : (k : ℕ) → manyJudged s vs room ≡ Done k → (s .rested ≡ true) × (every byteFits vs ≡ true) × (k ≡ count) × (k * s .nets ≤ room)
+  unfolding manyJudged
+  many-asks k e = go (s .rested) refl (eqb (length vs % s .inputs) 0) (every byteFits vs) refl (leb (count * s .nets) room) refl e
+    where
+      go : (x : Bool) → s .rested ≡ x → (y z : Bool) → every byteFits vs ≡ z → (w : Bool) → leb (count * s .nets) room ≡ w
+          → cond x (cond y (cond z (cond w (Done count) (Refused NoRoom)) (Refused VectorByte)) (Refused VectorLength)) (Refused NotReady) ≡ Done k
+          → (s .rested ≡ true) × (every byteFits vs ≡ true) × (k ≡ count) × (k * s .nets ≤ room)
+      go true r true true f true q d = let h : k ≡ count = cc in (r, f, h, rw h (leb-true (count * s .nets) room q))
+      go true r true true f false q d = let z : _≡_ {A = ℕ} 0 1 = cc in absurd (omega arith)
+      go true r true false f w q d = let z : _≡_ {A = ℕ} 0 1 = cc in absurd (omega arith)
+      go true r false z f w q d = let z : _≡_ {A = ℕ} 0 1 = cc in absurd (omega arith)
+      go false r y z f w q d = let z : _≡_ {A = ℕ} 0 1 = cc in absurd (omega arith)

@@ -1,5 +1,0 @@
-pub mod Bytes
-pub mod Reading
-pub mod Scan
-pub mod Written
-pub mod Stopped

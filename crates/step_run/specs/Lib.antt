@@ -1,0 +1,4 @@
+pub mod Runs
+pub mod Vector
+pub mod AnyOrder
+pub mod Inner

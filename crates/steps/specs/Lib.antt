@@ -1,3 +1,0 @@
-pub mod Runs
-pub mod Vector
-pub mod AnyOrder

@@ -1,2 +1,0 @@
-pub mod Traced
-pub mod Caused

@@ -1,3 +1,0 @@
-pub mod Layout
-pub mod Wires
-pub mod Wired
