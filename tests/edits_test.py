@@ -68,15 +68,22 @@ assert facts("/r/card/proofs/judge/Proof.antt:19:166: error: `returns`: the two 
     "`steps-loaded` (card/proofs/Kept.antt)",
 ]
 assert facts("fn host_bytes::mark: no proof: expected `mark-spec` in p; `search` does not close `returns`, `returns-2`; it calls", "c") == ["`returns` of `mark`", "`returns-2` of `mark`"]
+
+
+def log_of(crate, label):
+    log = root / "target" / "must-fail" / crate / label / ".log"
+    return log.read_text(encoding="utf-8") if log.exists() else ""
+
+
+if sys.argv[2:3] == ["facts"]:
+    crate, label = sys.argv[3].split("/")
+    print("\n".join(facts(log_of(crate, label), crate)))
+    sys.exit()
 faults = 0
 edits = sorted(root.glob("crates/*/must-fail/*.edit"))
 for edit in edits:
     crate, label = edit.parts[-3], edit.stem
-    log = root / "target" / "must-fail" / crate / label / ".log"
-    text = log.read_text(encoding="utf-8") if log.exists() else ""
-    if sys.argv[2:] == ["facts", f"{crate}/{label}"]:
-        print("\n".join(facts(text, crate)))
-        sys.exit()
+    text = log_of(crate, label)
     said = fault(text) if text else "it was not tried: run rt ci"
     named = re.search(r"^at: (.*)$", edit.read_text(encoding="utf-8"), flags=re.M)
     if not said and (not named or named.group(1) not in facts(text, crate)):
