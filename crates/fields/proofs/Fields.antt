@@ -1,18 +1,15 @@
 -- Fields along an order of the gates: a gate's word of its pins' words, and one gate more. Assumes nothing.
-use mathlib.Core.Path.{_≡_, refl, sym, ap, ap₂, _∙_}
-use mathlib.Core.Bool.{Bool, false, not, cond}
+use mathlib.Core.Path.{_≡_, refl, sym, ap, _∙_}
+use mathlib.Core.Bool.{Bool, false}
 use mathlib.Core.List.{List, map, map-map}
-use Prim.Native.Nat.{ℕ, zero, suc, _+_, _^_, _*_, _≤_, _<_}
+use Prim.Native.Nat.{ℕ, zero, suc, _+_, _^_, _≤_, _<_}
 use native.Mathlib.Omega.{arith}
-use native.Mathlib.Decide.{ℕ-discrete}
-use native.Mathlib.Numerals.{add-one}
 use lib.Dec.{eqb}
-use lib.ListN.{length, getD, set, length-map, length-set}
-use lib.Seq.{getD-set-same, getD-set-other}
+use lib.ListN.{length, getD, set}
 use borrow.Author.Tests.{eq-eqb, ne-eqb, eqb-true}
 use Rattle.lists.specs.Listed.{listed}
-use Rattle.lists.proofs.Listed.{listed-none, listed-at, out-listed, is-listed, map-listed}
-use Rattle.word.specs.Word.{bit, isOne, differ, wordOf, movedUp}
+use Rattle.lists.proofs.Listed.{listed-none, listed-at, out-listed, is-listed}
+use Rattle.word.specs.Word.{bit, differ, wordOf, movedUp}
 use Rattle.word.proofs.Words.{is-word}
 use Rattle.gate.specs.Gate.{inverts, gate as gateFn}
 use Rattle.gate.specs.Inner.Pins.{byPins}
