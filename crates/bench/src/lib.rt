@@ -89,7 +89,7 @@ fn do_first<'a>(
     ensures { λ r. ⌜ record { moved = r; room = now (room .exit) }
         ≡ benchDone s (given (s .kinds) (now (v .entry))) (now (order .entry)) first (now (room .entry)) ⌝ }
 {
-    let before = fields::tops(&s.words);
+    let before = inputs::tops(&s.words);
     let mut vars = step_vars::start(&before, &s.feeds, v);
     let count = step_run::run_order(
         &mut vars,

@@ -2,11 +2,11 @@
 -- caller (a card that is rested, a vector that is not refused) stands as a hypothesis where the demand says so. Assumes nothing.
 use mathlib.Core.Path.{_≡_, refl, sym, ap, subst, _∙_}
 use mathlib.Core.Bool.{Bool, true, false}
-use mathlib.Core.List.{List, [], _∷_, _++_, map}
+use mathlib.Core.List.{List, [], _∷_, _++_}
 use Prim.Native.Nat.{ℕ, _<_, _≤_}
 use native.Mathlib.Omega.{arith}
 use lib.Dec.{lit<}
-use lib.ListN.{length, getD, take}
+use lib.ListN.{length, getD}
 use Rattle.lists.specs.Entries.{_∈_, Number}
 use Rattle.word.specs.Word.{bit, val}
 use Rattle.rule.specs.Net.{Net}
@@ -15,7 +15,7 @@ use Rattle.rule.specs.Steps.{Joined, GoodOrder, stepList, stepAt}
 use Rattle.rule.specs.Numbers.{numberOf, answerNumber}
 use Rattle.rule.specs.declared.Refusal.{Refusal}
 use Rattle.rule.specs.declared.Refusal.the-variants.{OrderLength, OrderEntry, OrderEarly}
-use Rattle.rule.specs.declared.Answer.the-variants.{Done, Refused}
+use Rattle.rule.specs.declared.Answer.the-variants.{Done}
 use Rattle.rule.proofs.StepLists.{list-number}
 use Rattle.card_wiring.specs.declared.Verdict.{Verdict}
 use Rattle.inputs.specs.Inputs.{given}
@@ -23,8 +23,8 @@ use Rattle.inputs.specs.Allowed.{Vector, gets-12, gets-10, gets-11}
 use Rattle.card_records.specs.Written.{Bytes}
 use Rattle.card.specs.declared.Session.{Session}
 use Rattle.card.specs.Session.{none, inputsOf, sessionOf, cardOf}
-use Rattle.card.specs.Load.{refusal, loadOf, taken}
-use Rattle.card.specs.Allowed.{Allowed, LoadGets}
+use Rattle.card.specs.Load.{refusal, loadOf}
+use Rattle.card.specs.Allowed.{Allowed}
 use Rattle.card.specs.Held.{HasCard}
 use Rattle.card.proofs.Kept.{session-card, session-holds, loaded-is, nets-are, inputs-are, card-fits}
 use Rattle.card.proofs.Verdicts.{load-takes, load-taken, load-refuses, load-refused}
@@ -48,29 +48,19 @@ use Rattle.step_run.proofs.Engines.{run-any-order, steps-number}
 use Rattle.operations.specs.declared.Engine.the-variants.{Fields, Steps}
 use Rattle.operations.specs.Operated.{vectorBy}
 use Rattle.operations.proofs.Engines.{same-session, by-good, by-takes}
-use Rattle.bench.specs.Bench.{Benched, notDone, benchOf}
+use Rattle.bench.specs.Bench.{benchOf}
 use Rattle.bench.specs.Allowed.{stepCount, Doing, BenchGets, gets-vector, gets-15, gets-16, gets-17, gets-19, gets-18}
 use Rattle.bench.proofs.Benches.{bench-refuses, bench-refused, bench-answers, bench-proper, bench-others, bench-whole, bench-stays, bench-good}
-use Rattle.demands.specs.Operations.{Operation, load, rest, vector, history, list, records, ask, trace, bench, lentTo, outcome, Same, Turn, afterBy}
+use Rattle.demands.specs.Operations.{Operation, load, rest, vector, history, list, records, ask, trace, bench, lentTo, outcome, Same, Given, Turn, afterBy, vectors}
 use Rattle.demands.specs.Histories.{HandsOut}
+use Rattle.demands.specs.Cards.{Accepts, CardRuns}
+use Rattle.demands.specs.Benches.{OrderFault, fault-15, fault-16, fault-17, TurnedAway, BenchValues, BenchWhole}
 use Rattle.demands.proofs.Refusing.{keeps}
 
 -- Demand 1. "Give the program a card or a vector of any kind, damaged ones too: it ends with a result or a numbered refusal. Nothing has to be checked
 -- beforehand. A refusal leaves the session and all lent room as they stood."
 pub demand-1 : (s : Session) (o : Operation) → ¬ (outcome s o .number ≡ 0) → Same s (lentTo o) (outcome s o)
 demand-1 s o n = keeps s o n
-
--- what is loaded is bytes
-abbrev pub Given : Operation → Type 0
-Given (load b) = Bytes b
-Given (rest v) = Unit {0}
-Given (vector e v) = Unit {0}
-Given (history ws bs fs) = Unit {0}
-Given (list ns ts) = Unit {0}
-Given (records room) = Unit {0}
-Given (ask n) = Unit {0}
-Given (trace n t room) = Unit {0}
-Given (bench v order k room) = Unit {0}
 
 -- the session predicate is met by the empty session and kept by every operation
 pub demand-1-starts : Good none
@@ -88,12 +78,6 @@ demand-1-keeps s (trace n t room) g h = g
 demand-1-keeps s (bench v order k room) g h = bench-good s g v order k room
 
 -- Demand 2. "A card is accepted exactly when document 01 allows it"; each number exactly when it gives it
-pub record Accepts (old : Session) (b : List ℕ) : Type 0 where
-  pub taken-if : (a : Allowed b) → loadOf old b ≡ taken (a .card)
-  pub taken-only : (k : ℕ) → loadOf old b .answer ≡ Done k → Allowed b
-  pub refused-if : (r : Refusal) → LoadGets b r → loadOf old b ≡ refusal old r
-  pub refused-only : (r : Refusal) → loadOf old b .answer ≡ Refused r → LoadGets b r
-
 pub demand-2-accepts : (old : Session) (b : List ℕ) → Bytes b → Accepts old b
 demand-2-accepts old b h = record {
   taken-if = load-takes old b h;
@@ -118,9 +102,6 @@ demand-2-rest s g l u fits =
     )
 
 -- vectors by engines in any mixture leave what the same vectors by fields leave
-abbrev pub vectors : List Turn → List (List ℕ)
-vectors ts = map (λ t. t .given) ts
-
 mixed : (ts : List Turn) (s : Session) → Good s → afterBy s ts ≡ after s (vectors ts)
 unfolding afterBy after
 mixed [] s g = refl
@@ -210,22 +191,7 @@ module _ (s : Session) (g : Good s) (l : s .loaded ≡ true) (u : List ℕ) (fit
       let stands = subst (Stands (cardOf s) (s .inputs) _) (sym (mixed ts (restOf s u .session) (rest-good s g u))) (after-stands (rest-stands s g l u fits start r) (vectors ts) all) in
       ap (λ m. answerNumber (m .answer)) (by-takes (t .engine) left (stands .good) (stands .rested) (t .given) (subst (λ k. Vector k (t .given)) (sym (stands .same-inputs)) last))
 
--- Demand 2 in one, from the bytes to the values. A session that holds a card, whatever the rest and the vectors, each by either engine: there is a settled state for the rest,
--- all are answered 0, and a history hands out the rule's values, before values and flags. Of the session nothing is said but what an operation hands out
-pub record CardRuns (s : Session) (c : List Net) : Type 0 where
-  pub settles : (u : List ℕ) → Vector (inputsOf c) u → (start : ℕ → Bool) × Rest c (givenTo c u) start
-  pub rests : (u : List ℕ) → Vector (inputsOf c) u → restOf s u .answer ≡ Done 0
-  pub flat : (u : List ℕ) → Vector (inputsOf c) u → (start : ℕ → Bool) → Rest c (givenTo c u) start → (words befores flags : List ℕ) → Roomy (length c) words befores flags
-      → let told = historyOf (restOf s u .session) words befores flags in
-      HandsOut c start (λ n t. start n) told × ((n : ℕ) → n < length c → getD (told .flags) n 0 ≡ 0)
-  pub takes : (u : List ℕ) → Vector (inputsOf c) u → (ts : List Turn) → ((v : List ℕ) → v ∈ vectors ts → Vector (inputsOf c) v) → (t : Turn) → Vector (inputsOf c) (t .given)
-      → answerNumber (vectorBy (t .engine) (afterBy (restOf s u .session) ts) (t .given) .answer) ≡ 0
-  pub shows : (u : List ℕ) → Vector (inputsOf c) u → (start : ℕ → Bool) → Rest c (givenTo c u) start
-      → (ts : List Turn) → ((v : List ℕ) → v ∈ vectors ts → Vector (inputsOf c) v) → (t : Turn) → Vector (inputsOf c) (t .given)
-      → (words befores flags : List ℕ) → Roomy (length c) words befores flags
-      → let before = stateAfter c start (vectors ts) in
-      HandsOut c before (value c before (givenTo c (t .given))) (historyOf (afterBy (restOf s u .session) (ts ++ (t ∷ []))) words befores flags)
-
+-- Demand 2 in one, from the bytes to the values. A session that holds a card runs it
 card-runs : (s : Session) → Good s → s .loaded ≡ true → CardRuns s (cardOf s)
 card-runs s g l = record {
   settles = λ u f. there u (here u f);
@@ -260,11 +226,6 @@ demand-3-count s g r v fits =
     (ranAlong s (given (s .kinds) v) (stepList (cardOf s)) .count, ap (λ m. m .answer) (steps-takes s v r fits), steps-number s g r (given (s .kinds) v))
 
 -- "An order is turned away, by 15, 16 or 17, exactly when it isn't one of these."
-pub data OrderFault : Refusal → Type 0 where
-  fault-15 : OrderFault OrderLength
-  fault-16 : OrderFault OrderEntry
-  fault-17 : OrderFault OrderEarly
-
 module _ (s : Session) (g : Good s) (rested : s .rested ≡ true) (v : List ℕ) (fits : Vector (s .inputs) v) (order : List ℕ) (k : ℕ) (room : List ℕ) where
   abbrev c : List Net
   c = cardOf s
@@ -272,18 +233,13 @@ module _ (s : Session) (g : Good s) (rested : s .rested ≡ true) (v : List ℕ)
   card : HasCard s
   card = g .card (g .rest rested .0)
 
-  pub record TurnedAway : Type 0 where
-    pub why : Refusal
-    pub fault : OrderFault why
-    pub refused : benchOf s v order k room .moved .answer ≡ Refused why
-
-  turned : (why : Refusal) → OrderFault why → BenchGets s v order k room why → TurnedAway
+  turned : (why : Refusal) → OrderFault why → BenchGets s v order k room why → TurnedAway s v order k room
   turned why f b = record { why = why; fault = f; refused = ap (λ x. x .moved .answer) (bench-refuses s g v order k room why b) }
 
-  turns-away : ¬ GoodOrder c (stepsOf c order) → TurnedAway
+  turns-away : ¬ GoodOrder c (stepsOf c order) → TurnedAway s v order k room
   turns-away n = go (orderJudged c order) (judgement c (card .accepted .free) (card-fits s card .pinned) order)
     where
-      go : (j : Verdict) → Judgement c (card .accepted .free) (card-fits s card .pinned) order j → TurnedAway
+      go : (j : Verdict) → Judgement c (card .accepted .free) (card-fits s card .pinned) order j → TurnedAway s v order k room
       go j (judged-15 l) = turned OrderLength fault-15 (gets-15 rested fits l)
       go j (judged-16 l e) = turned OrderEntry fault-16 (gets-16 rested fits l (λ x. e (x .below, x .once)))
       go j (judged-17 l b o e) = turned OrderEarly fault-17 (gets-17 rested fits l (record { below = b; once = o }) e)
@@ -294,7 +250,7 @@ module _ (s : Session) (g : Good s) (rested : s .rested ≡ true) (v : List ℕ)
   fault-number fault-16 = (omega arith, omega arith)
   fault-number fault-17 = (omega arith, omega arith)
 
-  takes-good : GoodOrder c (stepsOf c order) → ¬ TurnedAway
+  takes-good : GoodOrder c (stepsOf c order) → ¬ TurnedAway s v order k room
   takes-good good t = go (t .why) (fault-number (t .fault)) (bench-refused s g v order k room (t .why) (t .refused) .0)
     where
       fit : Fit c (card .accepted .free) (card-fits s card .pinned) order
@@ -310,18 +266,11 @@ module _ (s : Session) (g : Good s) (rested : s .rested ≡ true) (v : List ℕ)
       go why n (gets-19 e w o l) = omega (arith, n .1)
       go why n (gets-18 e w o l b) = omega (arith, n .1)
 
-  pub demand-3-refusals : (GoodOrder c (stepsOf c order) → ¬ TurnedAway) × (¬ GoodOrder c (stepsOf c order) → TurnedAway)
+  pub demand-3-refusals : (GoodOrder c (stepsOf c order) → ¬ TurnedAway s v order k room) × (¬ GoodOrder c (stepsOf c order) → TurnedAway s v order k room)
   demand-3-refusals = (takes-good, turns-away)
 
   -- "It takes a vector, an order and a number k, and does the first k steps."
   module _ (good : GoodOrder c (stepsOf c order)) (asked : k ≤ length order) where
-    abbrev pub benched : Benched
-    benched = benchOf s v order k room
-
-    -- the rule's value of a net at a time
-    abbrev pub ruled : ℕ → ℕ → Bool
-    ruled n t = value c (ends s) (givenTo c v) n t
-
     given-same : given (s .kinds) v ≡ givenTo c v
     given-same = λ i n. given-card s card v n i
 
@@ -332,29 +281,18 @@ module _ (s : Session) (g : Good s) (rested : s .rested ≡ true) (v : List ℕ)
     doing roomy = record { rested = rested; vector = fits; order-good = good; asked = omega (arith, whole); roomy = roomy }
 
     -- "It writes one byte for each step number: the step's value if it is among the first k, else 2."
-    pub record BenchValues : Type 0 where
-      pub done : benched .moved .answer ≡ Done k
-      pub first : (e : ℕ) → e ∈ take k order → let step = stepAt (stepList c) e in getD (benched .room) e 0 ≡ val (ruled (step .net) (step .time))
-      pub others : (e : ℕ) → e < stepCount s → ¬ (e ∈ take k order) → getD (benched .room) e 0 ≡ notDone
-
-    pub demand-3-bench-values : stepCount s ≤ length room → BenchValues
+    pub demand-3-bench-values : stepCount s ≤ length room → BenchValues s v order k room
     demand-3-bench-values roomy = record {
       done = bench-answers s g v order k room (doing roomy);
       first = λ e m. let step = stepAt (stepList c) e in bench-proper s g v order k room (doing roomy) e m ∙ ap (λ new. val (value c (ends s) new (step .net) (step .time))) given-same;
       others = bench-others s g v order k room (doing roomy);
     }
 
-    -- k the whole list: the session moves "exactly as a vector moves it", "the whole run ends with the rule's history and state" and counts the chain pairs
-    pub record BenchWhole : Type 0 where
-      pub as-vector : benched .moved .session ≡ vectorOf s v .session
-      pub history : (n : ℕ) → n < s .nets → (t : ℕ) → t < 64 → bit (getD (benched .moved .session .words) n 0) t ≡ ruled n t
-      pub before : (n : ℕ) → n < s .nets → getD (benched .moved .session .before) n false ≡ ends s n
-      pub count : (m : ℕ) × (benched .moved .answer ≡ Done m) × Number (Joined c) m
-
-    pub demand-3-bench-whole : stepCount s ≤ length room → k ≡ length order → BenchWhole
+    -- k the whole list
+    pub demand-3-bench-whole : stepCount s ≤ length room → k ≡ length order → BenchWhole s v order k room
     demand-3-bench-whole roomy all =
         let left = bench-whole s g v order k room (doing roomy) (all ∙ whole) in
-        let same : benched .moved .session ≡ vectorOf s v .session = ap (λ m. m .session) left ∙ sym (ap (λ m. m .session) (vector-takes s v rested fits)) in
+        let same : benchOf s v order k room .moved .session ≡ vectorOf s v .session = ap (λ m. m .session) left ∙ sym (ap (λ m. m .session) (vector-takes s v rested fits)) in
         record {
           as-vector = same;
           history = λ n l t b. ap (λ x. bit (getD (x .words) n 0) t) same ∙ vector-rule s g rested v fits n l .0 t b ∙ ap (λ new. value c (ends s) new n t) given-same;
@@ -363,5 +301,5 @@ module _ (s : Session) (g : Good s) (rested : s .rested ≡ true) (v : List ℕ)
         }
 
     -- "The session moves only when k is the whole list": for a smaller k it stays
-    pub demand-3-bench-part : k < length order → benched .moved .session ≡ s
+    pub demand-3-bench-part : k < length order → benchOf s v order k room .moved .session ≡ s
     demand-3-bench-part part = bench-stays s g v order k room (omega (arith, whole))

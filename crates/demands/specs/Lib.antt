@@ -1,2 +1,4 @@
 pub mod Operations
 pub mod Histories
+pub mod Cards
+pub mod Benches

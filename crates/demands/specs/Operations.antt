@@ -1,10 +1,11 @@
 -- Every operation on a session, by its own definition: what it is given, and what it hands back of number, count, session and lent room. Assumes nothing.
 use mathlib.Core.Path.{_≡_}
-use mathlib.Core.List.{List, [], _∷_}
+use mathlib.Core.List.{List, [], _∷_, map}
 use Prim.Native.Nat.{ℕ}
 use Rattle.rule.specs.declared.Answer.{Answer}
 use Rattle.rule.specs.declared.NetAnswer.{NetAnswer}
 use Rattle.rule.specs.Numbers.{answerNumber, answerCount, netNumber, netLevel, netWord}
+use Rattle.card_records.specs.Written.{Bytes}
 use Rattle.card.specs.declared.Session.{Session}
 use Rattle.card.specs.declared.Loaded.{Loaded}
 use Rattle.card.specs.Load.{loadOf}
@@ -125,3 +126,19 @@ pub record Same (s : Session) (lent : Lent) (o : Outcome) : Type 0 where
   pub word : o .word ≡ 0
   pub session : o .session ≡ s
   pub room : o .lent ≡ lent
+
+-- what is asked of what an operation is given: of what is loaded that it is bytes, and of all else nothing
+abbrev pub Given : Operation → Type 0
+Given (load b) = Bytes b
+Given (rest v) = Unit {0}
+Given (vector e v) = Unit {0}
+Given (history ws bs fs) = Unit {0}
+Given (list ns ts) = Unit {0}
+Given (records room) = Unit {0}
+Given (ask n) = Unit {0}
+Given (trace n t room) = Unit {0}
+Given (bench v order k room) = Unit {0}
+
+-- the vectors of some turns
+abbrev pub vectors : List Turn → List (List ℕ)
+vectors ts = map (λ t. t .given) ts

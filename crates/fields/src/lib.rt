@@ -1,6 +1,5 @@
-// The bit-fields of a card: a pass over its gates, in the words themselves, and what stands in them ahead of one.
+// The bit-fields of a card: a pass over its gates, in the words themselves.
 ghost use mathlib.Core.Path.{_≡_};
-ghost use mathlib.Core.Bool.{false};
 ghost use mathlib.Core.List.{map};
 ghost use Prim.Native.Nat.{ℕ, _<_, _≤_};
 ghost use lib.ListN.{length, getD};
@@ -10,8 +9,9 @@ ghost use Rattle.gate.specs.Gate.{controls};
 ghost use Rattle.gate.specs.Inner.Pins.{byPins};
 ghost use Rattle.rule.specs.Net.{openValue};
 ghost use Rattle.card_wiring.specs.Layout.{pinsAt};
-ghost use Rattle.card_wiring.specs.Inner.Wires.{Wires, Fitting};
-ghost use Rattle.fields.specs.Inner.Fields.{Gates, fieldOf, pinWord, topsOf, passed, netsPut, byteWord, advanced, constantAt};
+ghost use Rattle.card_wiring.specs.Inner.Wires.{Wires, Fitting, Gates};
+ghost use Rattle.inputs.specs.Inner.Starts.{topsOf};
+ghost use Rattle.fields.specs.Inner.Fields.{fieldOf, pinWord, passed, advanced};
 
 // The word of an open pin: its value at every time.
 pub fn open_word() -> u64
@@ -55,14 +55,6 @@ pub fn gather<'a>(
     known
 }
 
-// A word's value at time 63.
-fn top(word: u64) -> bool
-    ensures { λ r. ⌜ r ≡ bit word 63 ⌝ }
-{
-    let w = word::PcSet { word };
-    w.has(63)
-}
-
 // The field of gate g: its word of its pins' words, moved up by one, with its before value in bit 0. Its own word still ends in it.
 fn field_of<'a>(
     words: &[u64; 256],
@@ -82,7 +74,7 @@ fn field_of<'a>(
     let ty = card_wiring::wide(types[g]);
     let rule = gate::rule_of(ty);
     let all = gather(words, counts, places, n, ty, rule, g);
-    gate::field(rule, all, top(words[g]))
+    gate::field(rule, all, inputs::top(words[g]))
 }
 
 // The fields of the gates, along their order, from words that end in the before values.
@@ -112,18 +104,6 @@ pub fn pass<'a>(
     }
 }
 
-// A vector's values in the inputs' words, at every time: the net of input j has byte j.
-pub fn put_inputs<'a>(words: &mut [u64; 256], inputs: &'a [u16; 256], v: &'a [u8])
-    requires { ⌜ (length (now v) ≤ 256) × ((j : ℕ) → getD (now inputs) j 0 < 256) ⌝ }
-    ensures { λ r. ⌜ now (words .exit) ≡ netsPut (now (inputs .entry)) (byteWord (now (v .entry))) (length (now (v .entry))) (now (words .entry)) ⌝ }
-{
-    let mut j: usize = 0;
-    while j < v.len() {
-        words[card_wiring::wide16(inputs[j])] = word::spread(v[j] != 0);
-        j += 1;
-    }
-}
-
 // The words that a vector leaves, of words that end in the before values.
 pub fn advance<'a>(
     words: &mut [u64; 256],
@@ -145,47 +125,6 @@ pub fn advance<'a>(
         ≡ advanced (now (inputs .entry)) (now (types .entry)) (now (counts .entry)) (now (places .entry))
         (listed (λ i. getD (now (order .entry)) i 0) gates) (now (words .entry)) (now (v .entry)) ⌝ }
 {
-    put_inputs(words, inputs, v);
+    inputs::put_inputs(words, inputs, v);
     pass(words, types, counts, places, n, order, gates);
-}
-
-// The values at time 63.
-pub fn tops(words: &[u64; 256]) -> [bool; 256]
-    ensures { λ r. ⌜ r ≡ topsOf (now (words .entry)) ⌝ }
-{
-    let mut out = [false; 256];
-    let mut n: usize = 0;
-    while n < 256 {
-        out[n] = top(words[n]);
-        n += 1;
-    }
-    out
-}
-
-// A word a net, its value at every time.
-pub fn flats(values: &[bool; 256]) -> [u64; 256]
-    ensures { λ r. ⌜ r ≡ listed (λ n. wordOf 64 (λ t. getD (now (values .entry)) n false)) 256 ⌝ }
-{
-    let mut out = [0u64; 256];
-    let mut n: usize = 0;
-    while n < 256 {
-        out[n] = word::spread(values[n]);
-        n += 1;
-    }
-    out
-}
-
-// The values that constants have, net by net.
-pub fn constants_of<'a>(kinds: &'a [u8; 256], types: &'a [u8; 256]) -> [bool; 256]
-    ensures { λ r. ⌜ r ≡ listed (λ n. constantAt (getD (now (kinds .entry)) n 0) (getD (now (types .entry)) n 0)) 256 ⌝ }
-{
-    let mut out = [false; 256];
-    let mut n: usize = 0;
-    while n < 256 {
-        if kinds[n] == 2 {
-            out[n] = types[n] != 0;
-        }
-        n += 1;
-    }
-    out
 }

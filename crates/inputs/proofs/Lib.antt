@@ -1,3 +1,4 @@
 pub mod Vectors
 pub mod Nets
 pub mod Verdicts
+pub mod Starts

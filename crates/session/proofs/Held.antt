@@ -21,13 +21,14 @@ use Rattle.rule.specs.Steps.{gateOrder}
 use Rattle.rule.proofs.Nets.{not-open, gate-listed}
 use Rattle.rule.proofs.GateOrders.{out-order, order-once}
 use Rattle.card_wiring.specs.Layout.{kindOf, typeOf, kindsOf, typesOf}
-use Rattle.card_wiring.specs.Inner.Wires.{Fits}
+use Rattle.card_wiring.specs.Inner.Wires.{Fits, Gates}
 use Rattle.card_wiring.proofs.Layouts.{count-at, kind-at, kind-past, type-at}
 use Rattle.inputs.specs.Inputs.{isInputKind, rank, given}
 use Rattle.inputs.proofs.Vectors.{rank-le}
 use Rattle.inputs.proofs.Nets.{nets-low}
-use Rattle.fields.specs.Inner.Fields.{Gates, topsOf, passed, netsPut, byteWord, advanced, constantAt}
-use Rattle.fields.proofs.Fields.{inputsPut, nets-put}
+use Rattle.inputs.specs.Inner.Starts.{topsOf, netsPut, byteWord, constantAt}
+use Rattle.fields.specs.Inner.Fields.{passed, advanced}
+use Rattle.inputs.proofs.Starts.{inputsPut, nets-put}
 use Rattle.card_records.proofs.Heads.{type-single}
 use Rattle.card.specs.declared.Session.{Session}
 use Rattle.card.specs.Session.{cardOf}

@@ -31,8 +31,9 @@ use Rattle.card_wiring.specs.Layout.{pinsAt, kindsOf, typesOf, countsOf, places
 use Rattle.card_wiring.specs.Inner.Wires.{Fits}
 use Rattle.card_wiring.proofs.Layouts.{gate-fn, pins-laid, type-at}
 use Rattle.inputs.specs.Inputs.{isInputKind, given}
-use Rattle.fields.specs.Inner.Fields.{fieldOf, fieldAt, pinWord, topsOf, passed}
-use Rattle.fields.proofs.Fields.{inputsPut}
+use Rattle.inputs.specs.Inner.Starts.{topsOf}
+use Rattle.fields.specs.Inner.Fields.{fieldOf, fieldAt, pinWord, passed}
+use Rattle.inputs.proofs.Starts.{inputsPut}
 use Rattle.card_records.proofs.Fitted.{Fitted}
 use Rattle.card.proofs.Reading.{inputs-laid}
 use Rattle.session.specs.Good.{histories}

@@ -15,7 +15,8 @@ use Rattle.rule.specs.Rule.{value, AtRest}
 use Rattle.rule.proofs.Values.{constant-is}
 use Rattle.rule.proofs.Rests.{ends-at-rest}
 use Rattle.inputs.specs.Inputs.{given}
-use Rattle.fields.specs.Inner.Fields.{topsOf, advanced}
+use Rattle.inputs.specs.Inner.Starts.{topsOf}
+use Rattle.fields.specs.Inner.Fields.{advanced}
 use Rattle.card.specs.declared.Session.{Session}
 use Rattle.card.specs.Session.{cardOf, wordAt, resting}
 use Rattle.card.specs.Held.{HasCard}

@@ -16,7 +16,8 @@ use Rattle.rule.specs.Rule.{value, Rest}
 use Rattle.rule.proofs.Nets.{not-open}
 use Rattle.rule.proofs.Rests.{rest-exists, settles-at-level}
 use Rattle.inputs.specs.Inputs.{given}
-use Rattle.fields.specs.Inner.Fields.{topsOf, advanced, constantAt}
+use Rattle.inputs.specs.Inner.Starts.{topsOf, constantAt}
+use Rattle.fields.specs.Inner.Fields.{advanced}
 use Rattle.card.specs.declared.Session.{Session}
 use Rattle.card.specs.Session.{cardOf, resting}
 use Rattle.card.specs.Held.{HasCard}

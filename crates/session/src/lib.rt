@@ -43,7 +43,7 @@ fn run_fields(s: Session, v: &[u8]) -> Session
     requires { ⌜ (s .rested ≡ true) × (length (now v) ≡ s .inputs) ⌝ }
     ensures { λ r. ⌜ r ≡ movedBy s (given (s .kinds) (now (v .entry))) ⌝ }
 {
-    let before = fields::tops(&s.words);
+    let before = inputs::tops(&s.words);
     let mut words = s.words;
     fields::advance(
         &mut words,
@@ -65,8 +65,8 @@ fn settle(s: Session, v: &[u8]) -> Session
     requires { ⌜ (s .loaded ≡ true) × (length (now v) ≡ s .inputs) ⌝ }
     ensures { λ r. ⌜ r ≡ restedBy s (given (s .kinds) (now (v .entry))) ⌝ }
 {
-    let constants = fields::constants_of(&s.kinds, &s.types);
-    let mut words = fields::flats(&constants);
+    let constants = inputs::constants_of(&s.kinds, &s.types);
+    let mut words = inputs::flats(&constants);
     fields::advance(
         &mut words,
         &s.feeds,
@@ -78,8 +78,8 @@ fn settle(s: Session, v: &[u8]) -> Session
         s.gates,
         v,
     );
-    let before = fields::tops(&words);
-    let flat = fields::flats(&before);
+    let before = inputs::tops(&words);
+    let flat = inputs::flats(&before);
     with_words(s, true, before, flat)
 }
 

@@ -8,7 +8,7 @@ use Rattle.lists.specs.Entries.{_∈_}
 use Rattle.lists.specs.Listed.{listed}
 use Rattle.lists.proofs.Listed.{listed-none, listed-more, in-listed}
 use Rattle.rule.specs.Steps.{Step, IsStep}
-use Rattle.fields.specs.Inner.Fields.{Gates}
+use Rattle.card_wiring.specs.Inner.Wires.{Gates}
 use Rattle.card.specs.declared.Session.{Session}
 use Rattle.card.specs.Session.{cardOf}
 use Rattle.card.specs.Held.{HasCard}

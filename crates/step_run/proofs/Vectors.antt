@@ -17,8 +17,8 @@ use Rattle.card_wiring.specs.declared.Verdict.the-variants.{Refused as Faulty, 
 use Rattle.inputs.specs.Allowed.{Vector}
 use Rattle.inputs.specs.Inputs.{isInputKind, given, vectorJudged}
 use Rattle.inputs.proofs.Verdicts.{vector-judged}
-use Rattle.fields.specs.Inner.Fields.{netsPut, byteWord}
-use Rattle.fields.proofs.Fields.{inputsPut, nets-put}
+use Rattle.inputs.specs.Inner.Starts.{netsPut, byteWord}
+use Rattle.inputs.proofs.Starts.{inputsPut, nets-put}
 use Rattle.card.specs.declared.Session.{Session}
 use Rattle.card.specs.Session.{cardOf, resting}
 use Rattle.card.specs.Held.{HasCard}

@@ -100,7 +100,7 @@ fn run_steps(s: Session, v: &[u8]) -> Moved
     requires { ⌜ (s .rested ≡ true) × (length (now v) ≡ s .inputs) ⌝ }
     ensures { λ r. ⌜ r ≡ ranMove s (ranAlong s (given (s .kinds) (now (v .entry))) (stepList (cardOf s))) ⌝ }
 {
-    let before = fields::tops(&s.words);
+    let before = inputs::tops(&s.words);
     let mut vars = step_vars::start(&before, &s.feeds, v);
     let mut nets = [0u16; 4096];
     let mut times = [0u8; 4096];

@@ -14,7 +14,7 @@ use Rattle.rule.specs.Net.{openPin, atPin}
 use Rattle.rule.proofs.Nets.{at-open, at-net}
 use Rattle.card_wiring.specs.Layout.{pinsAt}
 use Rattle.card_wiring.proofs.Gathered.{gather-gate}
-use Rattle.fields.specs.Inner.Fields.{Gates}
+use Rattle.card_wiring.specs.Inner.Wires.{Gates}
 use Rattle.step_vars.specs.Variables.{heldIn, varsOf, readIn, readsIn, fnIn}
 
 -- a pin that is not open names a net

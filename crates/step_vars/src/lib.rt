@@ -8,8 +8,7 @@ ghost use Rattle.gate.specs.Gate.{controls};
 ghost use Rattle.gate.specs.Inner.Pins.{byPins};
 ghost use Rattle.rule.specs.Net.{openPin};
 ghost use Rattle.card_wiring.specs.Layout.{pinsAt};
-ghost use Rattle.card_wiring.specs.Inner.Wires.{Wires, Fitting};
-ghost use Rattle.fields.specs.Inner.Fields.{Gates};
+ghost use Rattle.card_wiring.specs.Inner.Wires.{Wires, Fitting, Gates};
 ghost use Rattle.step_vars.specs.Variables.{heldIn, varsOf, readIn, stepIn, historyWord, historiesFrom};
 ghost use Rattle.step_vars.specs.Inner.Variables.{StepTime, Words, startIn};
 use word::PcSet;
@@ -19,8 +18,8 @@ pub fn start<'a>(before: &'a [bool; 256], feeds: &'a [u16; 256], v: &'a [u8]) ->
     requires { ⌜ (length (now v) ≤ 256) × ((j : ℕ) → getD (now feeds) j 0 < 256) ⌝ }
     ensures { λ r. ⌜ r ≡ startIn (now (before .entry)) (now (feeds .entry)) (now (v .entry)) ⌝ }
 {
-    let mut vars = fields::flats(before);
-    fields::put_inputs(&mut vars, feeds, v);
+    let mut vars = inputs::flats(before);
+    inputs::put_inputs(&mut vars, feeds, v);
     vars
 }
 

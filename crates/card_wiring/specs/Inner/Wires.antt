@@ -72,3 +72,10 @@ delayAt g = 1
 pub record Fits (c : List Net) : Type 0 where
   pub few : length c ≤ 256
   pub narrow : (n : ℕ) → length (pins c n) ≤ 8
+
+-- what a gate needs of the arrays
+pub record Gates (types counts : List ℕ) (g : ℕ) : Type 0 where
+  pub net : g < 256
+  pub type : getD types g 0 < 8
+  pub pinned : 0 < getD counts g 0
+  pub single : getD types g 0 < 2 → getD counts g 0 ≡ 1

@@ -2,8 +2,9 @@
 use mathlib.Core.Path.{ap, _∙_}
 use lib.ListN.{length, getD}
 use Rattle.lists.specs.Listed.{listed}
-use Rattle.fields.specs.Inner.Fields.{topsOf, passed}
-use Rattle.fields.proofs.Fields.{length-put}
+use Rattle.inputs.specs.Inner.Starts.{topsOf}
+use Rattle.fields.specs.Inner.Fields.{passed}
+use Rattle.inputs.proofs.Starts.{length-put}
 use Rattle.fields.proofs.advance.Statement.{statement}
 use Rattle.fields.proofs.advance.Tie as tie
 

@@ -6,7 +6,7 @@ use lib.ListN.{getD}
 use Rattle.lists.specs.Entries.{_∈_}
 use Rattle.lists.specs.Listed.{listed}
 use Rattle.rule.specs.Steps.{Step}
-use Rattle.fields.specs.Inner.Fields.{Gates}
+use Rattle.card_wiring.specs.Inner.Wires.{Gates}
 use Rattle.step_vars.specs.Inner.Variables.{StepTime}
 use Rattle.step_list.specs.Inner.Listing.{numberedStep}
 use Rattle.rule.specs.declared.Answer.the-variants.{Done}

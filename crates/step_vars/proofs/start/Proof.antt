@@ -2,7 +2,7 @@
 use mathlib.Core.Path.{ap, _∙_}
 use lib.ListN.{length}
 use borrow.Author.Needs.{needs}
-use Rattle.fields.specs.Inner.Fields.{netsPut, byteWord}
+use Rattle.inputs.specs.Inner.Starts.{netsPut, byteWord}
 use Rattle.step_vars.specs.Inner.Variables.{startIn}
 use Rattle.step_vars.proofs.start.Statement.{statement}
 use Rattle.step_vars.proofs.start.Tie as tie

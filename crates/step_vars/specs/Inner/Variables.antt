@@ -7,7 +7,7 @@ use Prim.Native.Nat.{ℕ, _^_, _<_}
 use lib.ListN.{length, getD}
 use Rattle.lists.specs.Listed.{listed}
 use Rattle.word.specs.Word.{wordOf}
-use Rattle.fields.specs.Inner.Fields.{netsPut, byteWord}
+use Rattle.inputs.specs.Inner.Starts.{netsPut, byteWord}
 
 -- the times that a step can have: an element of a gate's set is above 0, and those of a word are below 64
 pub record StepTime (t : ℕ) : Type 0 where

@@ -11,8 +11,8 @@ use Rattle.lists.specs.Listed.{listed, upto}
 use Rattle.lists.proofs.Fills.{fill-none, fill-more, fill-all}
 use Rattle.word.specs.Word.{wordOf}
 use Rattle.word.proofs.Words.{is-word}
-use Rattle.fields.proofs.flats.Statement.{statement}
-use Rattle.fields.proofs.flats.Tie as tie
+use Rattle.inputs.proofs.flats.Statement.{statement}
+use Rattle.inputs.proofs.flats.Tie as tie
 
 abbrev flat : List Bool → ℕ → ℕ
 flat values n = wordOf 64 (λ t. getD values n false)

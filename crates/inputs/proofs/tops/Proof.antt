@@ -10,8 +10,8 @@ use borrow.Author.Needs.{needs}
 use Rattle.lists.specs.Listed.{listed, upto}
 use Rattle.lists.proofs.Fills.{fill-none, fill-more, fill-all}
 use Rattle.word.specs.Word.{bit}
-use Rattle.fields.proofs.tops.Statement.{statement}
-use Rattle.fields.proofs.tops.Tie as tie
+use Rattle.inputs.proofs.tops.Statement.{statement}
+use Rattle.inputs.proofs.tops.Tie as tie
 
 abbrev top : List ℕ → ℕ → Bool
 top words n = bit (getD words n 0) 63

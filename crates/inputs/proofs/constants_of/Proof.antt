@@ -10,10 +10,10 @@ use lib.ListN.{getD}
 use borrow.Author.Needs.{needs}
 use Rattle.lists.specs.Listed.{listed, upto}
 use Rattle.lists.proofs.Fills.{fill-none, fill-more, fill-skip, fill-all}
-use Rattle.fields.specs.Inner.Fields.{constantAt}
-use Rattle.fields.proofs.Fields.{constant-value, no-constant}
-use Rattle.fields.proofs.constants_of.Statement.{statement}
-use Rattle.fields.proofs.constants_of.Tie as tie
+use Rattle.inputs.specs.Inner.Starts.{constantAt}
+use Rattle.inputs.proofs.Starts.{constant-value, no-constant}
+use Rattle.inputs.proofs.constants_of.Statement.{statement}
+use Rattle.inputs.proofs.constants_of.Tie as tie
 
 abbrev values : List ℕ → List ℕ → ℕ → Bool
 values kinds types n = constantAt (getD kinds n 0) (getD types n 0)

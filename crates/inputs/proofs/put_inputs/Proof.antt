@@ -4,10 +4,10 @@ use Prim.Native.Nat.{_-_, _≤_, _<_}
 use native.Mathlib.Omega.{arith}
 use lib.ListN.{length}
 use borrow.Author.Needs.{needs}
-use Rattle.fields.specs.Inner.Fields.{netsPut, byteWord}
-use Rattle.fields.proofs.Fields.{put-none, put-more, byte-word}
-use Rattle.fields.proofs.put_inputs.Statement.{statement}
-use Rattle.fields.proofs.put_inputs.Tie as tie
+use Rattle.inputs.specs.Inner.Starts.{netsPut, byteWord}
+use Rattle.inputs.proofs.Starts.{put-none, put-more, byte-word}
+use Rattle.inputs.proofs.put_inputs.Statement.{statement}
+use Rattle.inputs.proofs.put_inputs.Tie as tie
 
 abbrev Inv-loop : tie.InvT-loop
 Inv-loop words₀ inputs v j₀ words j = (j ≤ length v) × (words ≡ netsPut inputs (byteWord v) j words₀)
