@@ -1,4 +1,4 @@
--- `fields::constants_of` meets its contract. The loop's invariant: the first n places have the constants' values, the rest is 0. The
+-- `inputs::constants_of` meets its contract. The loop's invariant: the first n places have the constants' values, the rest is 0. The
 -- measure is what is left of 256. Assumes nothing.
 use mathlib.Core.Path.{_≡_, _∙_}
 use mathlib.Core.Bool.{Bool, false}

@@ -1,4 +1,4 @@
--- `fields::flats` meets its contract. The loop's invariant: the first n words have their values at every time, the rest is 0. The measure
+-- `inputs::flats` meets its contract. The loop's invariant: the first n words have their values at every time, the rest is 0. The measure
 -- is what is left of 256. Assumes nothing.
 use mathlib.Core.Path.{_≡_}
 use mathlib.Core.Bool.{Bool, false}

@@ -1,4 +1,4 @@
--- `fields::put_inputs` meets its contract. The loop's invariant: the first j bytes are put. The measure is what is left of them. Assumes nothing.
+-- `inputs::put_inputs` meets its contract. The loop's invariant: the first j bytes are put. The measure is what is left of them. Assumes nothing.
 use mathlib.Core.Path.{_≡_, sym, ap, subst, _∙_}
 use Prim.Native.Nat.{_-_, _≤_, _<_}
 use native.Mathlib.Omega.{arith}

@@ -1,4 +1,4 @@
--- `fields::tops` meets its contract. The loop's invariant: the first n places have the values at 63, the rest is 0. The measure is what is
+-- `inputs::tops` meets its contract. The loop's invariant: the first n places have the values at 63, the rest is 0. The measure is what is
 -- left of 256. Assumes nothing.
 use mathlib.Core.Path.{_≡_}
 use mathlib.Core.Bool.{Bool, false}

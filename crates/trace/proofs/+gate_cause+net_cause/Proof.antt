@@ -1,4 +1,4 @@
--- `history::net_cause` and `history::gate_cause` meet their contracts, together. The measures are twice the time, and for the net one more: the
+-- `trace::net_cause` and `trace::gate_cause` meet their contracts, together. The measures are twice the time, and for the net one more: the
 -- net asks its gate at the same time, and the gate a net one unit earlier. Assumes nothing.
 use mathlib.Core.Path.{_≡_, sym, ap, _∙_, subst}
 use mathlib.Core.Bool.{true}

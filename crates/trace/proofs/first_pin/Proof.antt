@@ -1,4 +1,4 @@
--- `history::first_pin` meets its contract. The loop's invariant: none of the first j pins changed. The measure is what is left of the pins.
+-- `trace::first_pin` meets its contract. The loop's invariant: none of the first j pins changed. The measure is what is left of the pins.
 -- Assumes nothing.
 use mathlib.Core.Path.{_≡_, sym, _∙_}
 use mathlib.Core.Bool.{false}

@@ -1,4 +1,4 @@
--- `history::moved_at` meets its contract: at time 0 the before value is the earlier one, later the bit below. Assumes nothing.
+-- `trace::moved_at` meets its contract: at time 0 the before value is the earlier one, later the bit below. Assumes nothing.
 use mathlib.Core.Path.{refl, _∙_}
 use mathlib.Core.Bool.{false}
 use native.Mathlib.Omega.{arith}

@@ -1,4 +1,4 @@
--- `history::pin_moved` meets its contract: what is past the arrays is the open pin, and any other pin names a net. Assumes nothing.
+-- `trace::pin_moved` meets its contract: what is past the arrays is the open pin, and any other pin names a net. Assumes nothing.
 use mathlib.Core.Path.{sym, ap, _∙_}
 use mathlib.Core.Logic.{⊎-elim}
 use native.Mathlib.Omega.{arith}

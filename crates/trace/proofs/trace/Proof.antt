@@ -1,4 +1,4 @@
--- `history::trace` meets its contract: its tests are the refusals in their order, and the walk back is made where every change has a cause.
+-- `trace::trace` meets its contract: its tests are the refusals in their order, and the walk back is made where every change has a cause.
 -- Assumes nothing.
 use mathlib.Core.Path.{_≡_, sym, _∙_}
 use mathlib.Core.Bool.{true, false}
