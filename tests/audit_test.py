@@ -173,9 +173,9 @@ for edit, text in sorted(edits.items()):
 theorems = re.findall(r"`([a-z0-9]+(?:-[a-z0-9]+)+)`", contracts.split("<!-- edits -->")[0])
 for name in sorted({name for name in theorems if theorems.count(name) > 1}):
     faults.append(f"docs/CONTRACTS.md names {name} {theorems.count(name)} times")
-if subprocess.run([sys.executable, str(root / "docs/figures"), "--check"], stdout=subprocess.DEVNULL).returncode:
+if subprocess.run([sys.executable, str(root / "docs/figures"), "--check"], stdout=subprocess.DEVNULL, stderr=subprocess.DEVNULL).returncode:
     faults.append("docs/figures would write something else")
-if subprocess.run([sys.executable, str(root / "docs/drawing"), "-"], stdout=subprocess.PIPE, text=True).stdout != (root / "docs/crates.svg").read_text(encoding="utf-8"):
+if subprocess.run([sys.executable, str(root / "docs/drawing"), "-"], stdout=subprocess.PIPE, stderr=subprocess.DEVNULL, text=True).stdout != (root / "docs/crates.svg").read_text(encoding="utf-8"):
     faults.append("docs/drawing would draw something else")
 
 # --- 4. the layout of a session
