@@ -14,15 +14,6 @@ use Rattle.rule.specs.Chain.{Chain, start, link, pcSet}
 use Rattle.rule.proofs.Nets.{source-pins}
 
 module _ (c : List Net) where
-  -- 0 is in the set of an input, a constant and an open pin, and t + 1 where t is in a pin's
-  pub set-start : (n : ℕ) → pcSet c n 0 ≡ isSource (netAt c n)
-  unfolding pcSet
-  set-start n = refl
-
-  pub set-next : (n t : ℕ) → pcSet c n (suc t) ≡ some (λ p. pcSet c p t) (pins c n)
-  unfolding pcSet
-  set-next n t = refl
-
   pub set-of-chain : {n t : ℕ} → Chain c n t → pcSet c n t ≡ true
   unfolding pcSet
   set-of-chain (start e) = e
@@ -59,3 +50,12 @@ module _ (c : List Net) where
   pub set-reach : (n t : ℕ) → pcSet c n (suc t) ≡ some (λ p. leb 0 t && pcSet c p (t - 0)) (pins c n)
   unfolding pcSet
   set-reach n t = simp (leb·zero, sub-zero)
+
+  -- 0 is in the set of an input, a constant and an open pin, and t + 1 where t is in a pin's
+  pub set-start : (n : ℕ) → pcSet c n 0 ≡ isSource (netAt c n)
+  unfolding pcSet
+  set-start n = refl
+
+  pub set-next : (n t : ℕ) → pcSet c n (suc t) ≡ some (λ p. pcSet c p t) (pins c n)
+  unfolding pcSet
+  set-next n t = refl

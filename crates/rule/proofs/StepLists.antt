@@ -40,11 +40,12 @@ module _ (c : List Net) where
       in-each (λ u. when (pcSet c n u) (record { net = n; time = u } ∷ [])) (from 1 d) t _ (in-from 1 d t h (omega arith))
       (in-when (pcSet c n t) _ _ e (List·Memᴰ·head refl))
 
-  -- net by net: as many steps as the nets have elements
+  -- the list is made gate by gate, whatever lists are known to be the gates' steps
   pub list-by-gates : (f : ℕ → List Step) → ((n : ℕ) → n ∈ gateOrder c → f n ≡ netSteps c (depth c) n) → each f (gateOrder c) ≡ stepList c
   unfolding stepList
   list-by-gates f h = each-ext f (netSteps c (depth c)) (gateOrder c) h
 
+  -- a net has as many steps up to d as its set has elements from 1 to d, and the list has those of all gates
   pub net-length : (d n : ℕ) → length (netSteps c d n) ≡ sum (λ t. val (pcSet c n t)) (from 1 d)
   unfolding netSteps
   net-length d n = length-each _ (from 1 d) ∙ sum-on _ (λ t. val (pcSet c n t)) (from 1 d) (λ t m. one (record { net = n; time = t }) (pcSet c n t))
