@@ -1,6 +1,6 @@
 -- What a session that holds a card keeps of it. Assumes nothing.
 use mathlib.Core.Path.{_≡_, refl, sym, ap, ap₂, _∙_, subst}
-use mathlib.Core.Bool.{true, false, cond, false≢true}
+use mathlib.Core.Bool.{Bool, true, false, cond, false≢true}
 use mathlib.Core.List.{List}
 use mathlib.Core.Logic.{_⊎_}
 use Prim.Native.Nat.{ℕ, _+_, _≤_, _<_}
@@ -51,6 +51,25 @@ unfolding sessionOf
 session-holds c a =
     let e = session-card c a in
     record { accepted = rw e a; laid = rw e refl }
+
+-- a card just loaded is not yet rested
+pub session-fresh : (c : List CardNet) → (sessionOf c .loaded ≡ true) × (sessionOf c .rested ≡ false)
+unfolding sessionOf
+session-fresh c = (refl, refl)
+
+-- how many inputs and gates it has
+pub session-sizes : (c : List CardNet) → (sessionOf c .inputs ≡ inputsOf c) × (sessionOf c .gates ≡ length (gateOrder c))
+unfolding sessionOf
+session-sizes c = (refl, refl)
+
+-- another rest is of the same card
+pub resting-card : (s : Session) (rested : Bool) (before : List Bool) (words : List ℕ) → cardOf (resting s rested before words) ≡ cardOf s
+unfolding cardOf
+resting-card s rested before words = refl
+
+pub resting-holds : (s : Session) (rested : Bool) (before : List Bool) (words : List ℕ) → HasCard s → HasCard (resting s rested before words)
+unfolding cardOf
+resting-holds s rested before words h = record { accepted = h .accepted; laid = ap (λ x. resting x rested before words) (h .laid) }
 
 module _ (s : Session) (h : HasCard s) where
   abbrev c : List CardNet

@@ -1,20 +1,18 @@
 -- A card that was read, laid out in arrays: what load's steps make of it. Assumes nothing.
 use mathlib.Core.Path.{_≡_, refl, sym, ap, ap₂, _∙_, subst}
-use mathlib.Core.Bool.{Bool, true, false, cond}
+use mathlib.Core.Bool.{cond}
 use mathlib.Core.List.{List}
 use Prim.Native.Nat.{ℕ, _+_, _-_, _<_}
 use native.Mathlib.Decide.{decLt}
 use native.Mathlib.Omega.{arith}
-use lib.Dec.{eqb, ltb}
+use lib.Dec.{eqb}
 use lib.ListN.{length, getD}
 use borrow.Author.Tests.{eq-eqb, ne-eqb}
 use Rattle.word.specs.Times.{count}
-use Rattle.word.proofs.Sets.{count-cong}
+use Rattle.word.proofs.Sets.{count-cong, count-ends}
 use Rattle.rule.specs.Net.{Net, netAt, isInput, Pinned}
-use Rattle.rule.specs.Level.{depth}
-use Rattle.rule.specs.Steps.{gateOrder, stepList}
 use Rattle.rule.specs.declared.Refusal.{Refusal}
-use Rattle.rule.specs.declared.Refusal.the-variants.{NoInput, NoSuchPin, Looped, TooDeep, TooManySteps}
+use Rattle.rule.specs.declared.Refusal.the-variants.{NoInput}
 use Rattle.rule.specs.declared.Answer.the-variants.{Done}
 use Rattle.rule.proofs.Nets.{past-input}
 use Rattle.card_wiring.specs.declared.Verdict.{Verdict}
@@ -22,11 +20,10 @@ use Rattle.card_wiring.specs.declared.Verdict.the-variants.{Refused as Faulty, 
 use Rattle.card_wiring.specs.declared.Wired.{Wired}
 use Rattle.card_wiring.specs.Layout.{kindsOf, typesOf, countsOf, placesOf}
 use Rattle.card_wiring.specs.Inner.Wires.{Fits, Wires}
-use Rattle.card_wiring.specs.Wired.{pinsFit, mostBack, setWords, passedWiring, refusedWiring as faulty, wiredOf}
+use Rattle.card_wiring.specs.Wired.{wiredOf}
 use Rattle.card_wiring.specs.Inner.Wired.{arraysWired}
-use Rattle.card_wiring.proofs.Judged.{arrays-judged as wired-judged}
+use Rattle.card_wiring.proofs.Judged.{arrays-judged as wired-judged, wired-passed}
 use Rattle.card_wiring.proofs.Layouts.{kind-input, wires-laid, kind-at, kind-past}
-use Rattle.card_wiring.proofs.CardSets.{count-ends}
 use Rattle.inputs.specs.Inputs.{inputNets}
 use Rattle.card_records.specs.declared.Outcome.the-variants.{Refused, Read}
 use Rattle.card_records.specs.declared.Parsed.{Parsed}
@@ -76,32 +73,6 @@ inputs-all-counted c fit =
     count-cong _ (λ n. isInput (netAt c n)) 256 (λ n l. inputs-laid c fit n)
     ∙ ap (count (λ n. isInput (netAt c n))) (sym x)
     ∙ count-ends (λ n. isInput (netAt c n)) (length c) (256 - length c) (past-input c)
-
--- a wiring that passes has the order and the sets
-pub wired-passed : (c : List Net) → wiredOf c .verdict ≡ Passed
-    → wiredOf c ≡ passedWiring (gateOrder c) (setWords c)
-unfolding wiredOf
-wired-passed c = go (pinsFit c) (ltb (length c) (mostBack c)) (ltb 63 (depth c)) (ltb 4096 (length (stepList c)))
-  where
-    good : Wired
-    good = passedWiring (gateOrder c) (setWords c)
-
-    bad : Refusal → Wired
-    bad = faulty
-
-    never : (r : Refusal) → Faulty r ≡ Passed → ⊥
-    never r e = let z : _≡_ {A = ℕ} 0 1 = cc in omega arith
-
-    go : (a b d e : Bool)
-        → (cond a (cond b (bad Looped) (cond d (bad TooDeep)
-        (cond e (bad TooManySteps) good))) (bad NoSuchPin)) .verdict ≡ Passed
-        → cond a (cond b (bad Looped) (cond d (bad TooDeep)
-        (cond e (bad TooManySteps) good))) (bad NoSuchPin) ≡ good
-    go false b d e h = absurd (never _ h)
-    go true true d e h = absurd (never _ h)
-    go true false true e h = absurd (never _ h)
-    go true false false true h = absurd (never _ h)
-    go true false false false h = refl
 
 -- The arrays of a card that was read, and what the steps of the judgement are on them
 

@@ -1,24 +1,22 @@
 -- Each test that load makes of a card says what document 01 says: an input, pins that name nets, loops, levels, steps. Assumes nothing.
 use mathlib.Core.Path.{_≡_, refl, ap}
 use mathlib.Core.Bool.{Bool, true, false}
-use mathlib.Core.List.{List, [], _∷_, map}
+use mathlib.Core.List.{List}
 use mathlib.Core.Logic.{_⊎_, inl, inr}
-use Prim.Native.Nat.{ℕ, _<_}
+use Prim.Native.Nat.{ℕ}
 use native.Mathlib.Omega.{arith}
 use lib.Dec.{eqb, ltb}
 use lib.ListN.{length}
 use borrow.Author.Tests.{ltb-true, ltb-false, eqb-true, eqb-false}
-use Rattle.lists.specs.Entries.{from}
 use Rattle.lists.proofs.Bools.{not-both}
 use Rattle.lists.proofs.Number.{number-unique}
 use Rattle.word.specs.Times.{count}
 use Rattle.word.proofs.Sets.{count-none, count-some}
 use Rattle.rule.specs.Net.{Net, netAt, isInput, Named, Pinned}
-use Rattle.rule.specs.Level.{most, level, depth, Looped}
+use Rattle.rule.specs.Level.{depth, Looped}
 use Rattle.rule.specs.Steps.{Joined, stepList}
 use Rattle.rule.proofs.Nets.{is-input}
-use Rattle.rule.proofs.Levels.{most-at}
-use Rattle.rule.proofs.Depths.{level-depth}
+use Rattle.rule.proofs.Depths.{level-depth, depth-above}
 use Rattle.rule.proofs.StepLists.{list-number}
 use Rattle.card_wiring.specs.Wired.{pinsFit, mostBack}
 use Rattle.card_wiring.proofs.Judgements.{pins-named, named-fit, some-net-loops, back-no-loop}
@@ -77,13 +75,11 @@ loop-tells c = record { yes-is = λ e. some-net-loops c (ltb-true (length c) (mo
 
 -- "a level over 63"
 
-one-above : (f : ℕ → ℕ) (ns : List ℕ) (k : ℕ) → k < most (map f ns) → (n : ℕ) × (k < f n)
-one-above f [] k l = absurd (omega arith)
-one-above f (n ∷ ns) k l = let b = most-at f n ns in (b .0, omega (arith, b .2))
-
 pub deep-tells : (c : List Net) → Tells (ltb 63 (depth c)) (Deep c)
-unfolding depth
-deep-tells c = record { yes-is = λ e. one-above (level c) (from 0 (length c)) 63 (ltb-true 63 _ e); no-is = λ e r. let h = ltb-false 63 (depth c) e in let l = level-depth c (r .0) in omega (arith, r .1) }
+deep-tells c = record {
+  yes-is = λ e. depth-above c 63 (ltb-true 63 (depth c) e);
+  no-is = λ e r. let h = ltb-false 63 (depth c) e in let l = level-depth c (r .0) in omega (arith, r .1);
+}
 
 -- "over 4,096 steps"
 

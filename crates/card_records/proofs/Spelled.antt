@@ -1,7 +1,7 @@
 -- Bytes that are read as a record are that record written, and what it says is legal. Assumes nothing.
-use mathlib.Core.Path.{_≡_, refl, sym, ap, _∙_, subst}
+use mathlib.Core.Path.{_≡_, refl, sym, ap, ap₂, _∙_, subst}
 use mathlib.Core.Bool.{true, true≢false}
-use mathlib.Core.List.{List, [], _∷_, _++_, List·Memᴰ·head, List·Memᴰ·tail, List·Memᴰ·not-nil}
+use mathlib.Core.List.{List, [], _∷_, _++_}
 use Prim.Native.Nat.{ℕ, zero, suc, _+_, _*_, _/_, _%_, _≤_, _<_}
 use native.Mathlib.Omega.{arith}
 use native.Mathlib.Numerals.{add-one}
@@ -9,8 +9,8 @@ use lib.ListN.{length, getD, drop}
 use lib.Seq.{drop-cons}
 use borrow.Author.Tests.{ltb-true}
 use Rattle.lists.specs.Entries.{_∈_, each}
-use Rattle.lists.specs.Listed.{listed, listedFrom}
-use Rattle.lists.proofs.Listed.{length-listed}
+use Rattle.lists.specs.Listed.{listed}
+use Rattle.lists.proofs.Listed.{length-listed, listed-none, listed-first, listed-ext, out-listed}
 use Rattle.word.specs.Word.{isOne, val}
 use Rattle.word.proofs.Bits.{val-isOne}
 use Rattle.rule.specs.Net.{Net}
@@ -55,32 +55,23 @@ module _ (s : List ℕ) (bytes : Bytes s) where
 
   -- A gate's pins
 
-  pins-from : (start m a : ℕ) → start + 2 * (a + m) ≤ length s
-      → drop (start + 2 * a) s ≡ each two (listedFrom (λ j. u16At s (start + 2 * j)) a m) ++ drop (start + 2 * (a + m)) s
-  unfolding listedFrom
-  pins-from start zero a l = let x : a + 0 ≡ a = omega arith in rw x
-  pins-from start (suc m) a l =
-      let x : start + 2 * a + 2 ≡ start + 2 * suc a = omega arith in
-      let y : suc a + m ≡ a + suc m = omega arith in
-      two-more (start + 2 * a) (omega arith)
-      ∙ ap (λ t. two (u16At s (start + 2 * a)) ++ t) (ap (λ k. drop k s) x ∙ pins-from start m (suc a) (omega arith) ∙ rw y)
-
   pins-spelled : (start m : ℕ) → start + 2 * m ≤ length s
       → drop start s ≡ each two (listed (λ j. u16At s (start + 2 * j)) m) ++ drop (start + 2 * m) s
-  unfolding listed
-  pins-spelled start m l =
-      let x : start + 2 * 0 ≡ start = omega arith in
-      let y : 0 + m ≡ m = omega arith in
-      rw (x, y) at (pins-from start m 0 (omega arith))
+  pins-spelled start zero l = let x : start + 2 * 0 ≡ start = omega arith in rw (listed-none (λ j. u16At s (start + 2 * j)), x)
+  pins-spelled start (suc m) l =
+      let x : start + 2 + 2 * m ≡ start + 2 * suc m = omega arith in
+      let y : start + 2 * 0 ≡ start = omega arith in
+      two-more start (omega arith)
+      ∙ ap (λ t. two (u16At s start) ++ t)
+      (pins-spelled (start + 2) m (omega arith) ∙ ap (λ k. each two (listed (λ j. u16At s (start + 2 + 2 * j)) m) ++ drop k s) x)
+      ∙ ap (λ ps. each two ps ++ drop (start + 2 * suc m) s)
+      (ap₂ _∷_ (ap (u16At s) (sym y)) (listed-ext _ _ m later) ∙ sym (listed-first (λ j. u16At s (start + 2 * j)) m))
+    where
+      later : (j : ℕ) → j < m → u16At s (start + 2 + 2 * j) ≡ u16At s (start + 2 * suc j)
+      later j b = let z : start + 2 + 2 * j ≡ start + 2 * suc j = omega arith in ap (u16At s) z
 
   pins-small : (start m p : ℕ) → p ∈ listed (λ j. u16At s (start + 2 * j)) m → p < 65536
-  unfolding listed listedFrom
-  pins-small start m p h = go 0 m h
-    where
-      go : (a m : ℕ) → p ∈ listedFrom (λ j. u16At s (start + 2 * j)) a m → p < 65536
-      go a zero h = absurd (List·Memᴰ·not-nil h)
-      go a (suc m) (List·Memᴰ·head e) = rw e (u16-small (start + 2 * a))
-      go a (suc m) (List·Memᴰ·tail h) = go (suc a) m h
+  pins-small start m p h = let o = out-listed (λ j. u16At s (start + 2 * j)) m p h in rw (o .2) (u16-small (start + 2 * o .0))
 
   -- A record
 

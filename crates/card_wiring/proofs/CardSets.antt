@@ -2,57 +2,40 @@
 -- Assumes nothing.
 use mathlib.Core.Path.{_≡_, refl, sym, ap, _∙_}
 use mathlib.Core.Bool.{Bool, true, false, cond, _&&_}
-use mathlib.Core.List.{List, [], _∷_, map}
+use mathlib.Core.List.{List, map}
 use mathlib.Core.Logic.{_⊎_, inl, inr, ⊎-elim}
 use Prim.Native.Nat.{ℕ, zero, suc, _+_, _-_, _≤_, _<_}
-use native.Mathlib.Nat.{add-zero, add-suc}
 use native.Mathlib.Omega.{arith}
 use native.Mathlib.Decide.{decLt}
 use lib.Dec.{eqb, ltb, lit<}
 use lib.ListN.{length, getD}
 use borrow.Author.Tests.{eq-eqb, ne-eqb, eqb-true, lt-ltb, le-ltb, ltb-true}
-use Rattle.lists.specs.Entries.{_∈_, some, when, from, sum}
+use Rattle.lists.specs.Entries.{_∈_, some}
 use Rattle.lists.specs.Listed.{listed}
 use Rattle.lists.proofs.Bools.{and-both, and-make, or-either, or-later}
 use Rattle.lists.proofs.Tests.{some-map, some-ext}
-use Rattle.lists.proofs.Joined.{length-each, sum-on, sum-more}
+use Rattle.lists.proofs.Joined.{sum-on}
 use Rattle.lists.proofs.Listed.{listed-at, listed-ext}
 use Rattle.word.specs.Word.{val, bit, wordOf, movedUp}
 use Rattle.word.specs.Times.{count}
 use Rattle.word.proofs.Bits.{bit-bool, bit-high}
 use Rattle.word.proofs.Words.{bit-word, is-word, word-ext}
-use Rattle.word.proofs.Sets.{count-cong}
+use Rattle.word.proofs.Sets.{count-cong, count-sum, count-ends}
 use Rattle.rule.specs.Net.{Net, openPin, netAt, pins, isSource, Named, Pinned}
 use Rattle.rule.specs.Chain.{pcSet}
 use Rattle.rule.specs.Level.{depth, Looped}
 use Rattle.rule.specs.Run.{run}
-use Rattle.rule.specs.Steps.{Step, gateOrder, netSteps, stepList}
+use Rattle.rule.specs.Steps.{gateOrder, netSteps, stepList}
 use Rattle.rule.proofs.Nets.{at-open, at-net, not-open, source-pins}
-use Rattle.rule.proofs.Chains.{source-set}
+use Rattle.rule.proofs.Chains.{set-start, set-next, source-set}
 use Rattle.rule.proofs.Depths.{level-depth, set-level}
 use Rattle.rule.proofs.Runs.{run-leaves-others, run-right}
 use Rattle.rule.proofs.GateOrders.{out-order, in-order, order-ready-on}
+use Rattle.rule.proofs.StepLists.{net-length, list-length}
 use Rattle.card_wiring.specs.Layout.{countsOf, placesOf}
 use Rattle.card_wiring.specs.Inner.Wires.{Fits, joined, sourceSet, setsAlong, sizesOf}
 use Rattle.card_wiring.specs.Wired.{pinFits, setWords}
 use Rattle.card_wiring.proofs.Layouts.{count-at, pins-laid}
-
--- Counts
-
--- of a set that has no 0, time by time
-sum-count : (f : ℕ → Bool) (d : ℕ) → f 0 ≡ false → sum (λ t. val (f t)) (from 1 d) ≡ count f (suc d)
-unfolding count
-sum-count f zero e = rw e
-sum-count f (suc d) e =
-    let h = sum-count f d e in
-    let x : 1 + d ≡ suc d = omega arith in
-    sum-more (λ t. val (f t)) 1 d ∙ rw x (omega arith)
-
--- of a set that has nothing from d on
-pub count-ends : (f : ℕ → Bool) (d k : ℕ) → ((t : ℕ) → d ≤ t → f t ≡ false) → count f (d + k) ≡ count f d
-unfolding count
-count-ends f d zero h = rw (add-zero d)
-count-ends f d (suc k) h = rw (add-suc d k, h (d + k) (omega arith)) (omega (arith, count-ends f d k h))
 
 module _ (c : List Net) where
   -- the word of a net's PC-set
@@ -61,22 +44,22 @@ module _ (c : List Net) where
 
   -- {0}
   source-word : (n : ℕ) → isSource (netAt c n) ≡ true → 1 ≡ word n
-  unfolding pcSet
   source-word n e = is-word 64 (pcSet c n) 1 (lit< tt) at
     where
       at : (t : ℕ) → t < 64 → bit 1 t ≡ pcSet c n t
-      at zero l = bit-bool true ∙ sym e
+      at zero l = bit-bool true ∙ sym (set-start c n ∙ e)
       at (suc t) l = bit-high 1 1 (suc t) (lit< tt) (omega arith) ∙ sym (source-set c n t e)
 
   -- "for a gate, the union over its pins, each element raised by 1"
   gate-word : (n : ℕ) → isSource (netAt c n) ≡ false → word n ≡ joined n (map word (pins c n))
-  unfolding pcSet joined
+  unfolding joined
   gate-word n e = word-ext 64 (pcSet c n) (movedUp false (λ t. some (λ w. bit w t) (map word (pins c n)))) at
     where
       at : (t : ℕ) → t < 64 → pcSet c n t ≡ movedUp false (λ t. some (λ w. bit w t) (map word (pins c n))) t
-      at zero l = e
+      at zero l = set-start c n ∙ e
       at (suc t) l =
-          some-ext (λ p. pcSet c p t) (λ p. bit (word p) t) (pins c n) (λ p. sym (bit-word 64 (pcSet c p) t (omega arith)))
+          set-next c n t
+          ∙ some-ext (λ p. pcSet c p t) (λ p. bit (word p) t) (pins c n) (λ p. sym (bit-word 64 (pcSet c p) t (omega arith)))
           ∙ sym (some-map (λ w. bit w t) word (pins c n))
 
   module _ (free : ¬ Looped c) where
@@ -138,22 +121,16 @@ module _ (c : List Net) where
 
     -- a gate has a step for each element of its set
     gate-steps : (n : ℕ) → isSource (netAt c n) ≡ false → depth c ≤ 63 → length (netSteps c (depth c) n) ≡ count (pcSet c n) 64
-    unfolding netSteps pcSet
     gate-steps n e shallow =
         let x : suc (depth c) + (63 - depth c) ≡ 64 = omega arith in
-        length-each _ (from 1 (depth c))
-        ∙ sum-on _ (λ t. val (pcSet c n t)) (from 1 (depth c)) (λ t m. one (record { net = n; time = t }) (pcSet c n t))
-        ∙ sum-count (pcSet c n) (depth c) e
+        net-length c (depth c) n
+        ∙ count-sum (pcSet c n) (depth c) (set-start c n ∙ e)
         ∙ sym (count-ends (pcSet c n) (suc (depth c)) (63 - depth c) (λ t l. set-level c free n t (omega (arith, level-depth c n))))
         ∙ ap (count (pcSet c n)) x
-      where
-        one : (k : Step) (b : Bool) → length (when b (k ∷ [])) ≡ val b
-        one k true = refl
-        one k false = refl
 
     pub sizes-laid : Fits c → depth c ≤ 63 → sizesOf (setWords c) (gateOrder c) ≡ length (stepList c)
-    unfolding sizesOf setWords stepList
-    sizes-laid fit shallow = sum-on _ (λ n. length (netSteps c (depth c) n)) (gateOrder c) size ∙ sym (length-each (netSteps c (depth c)) (gateOrder c))
+    unfolding sizesOf setWords
+    sizes-laid fit shallow = sum-on _ (λ n. length (netSteps c (depth c) n)) (gateOrder c) size ∙ sym (list-length c)
       where
         size : (n : ℕ) → n ∈ gateOrder c → count (bit (getD (listed (λ n. cond (ltb n (length c)) (word n) 0) 256) n 0)) 64 ≡ length (netSteps c (depth c) n)
         size n m =

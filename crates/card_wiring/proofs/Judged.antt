@@ -3,6 +3,7 @@ use mathlib.Core.Path.{_≡_, refl, ap, _∙_}
 use mathlib.Core.Bool.{Bool, true, false, cond}
 use mathlib.Core.List.{List}
 use Prim.Native.Nat.{ℕ, _+_, _≤_, _<_}
+use native.Mathlib.Omega.{arith}
 use lib.Dec.{ltb}
 use lib.ListN.{length}
 use borrow.Author.Tests.{lt-ltb, le-ltb, ltb-false}
@@ -10,8 +11,9 @@ use Rattle.lists.specs.Listed.{listed}
 use Rattle.rule.specs.Net.{Net, Named, Pinned}
 use Rattle.rule.specs.Level.{level, depth}
 use Rattle.rule.specs.Steps.{gateOrder, stepList}
+use Rattle.rule.specs.declared.Refusal.{Refusal}
 use Rattle.rule.specs.declared.Refusal.the-variants.{NoSuchPin, Looped, TooDeep, TooManySteps}
-use Rattle.card_wiring.specs.declared.Verdict.the-variants.{Passed}
+use Rattle.card_wiring.specs.declared.Verdict.the-variants.{Refused, Passed}
 use Rattle.card_wiring.specs.declared.Wired.{Wired}
 use Rattle.card_wiring.specs.declared.Order.{Order}
 use Rattle.card_wiring.specs.Layout.{countsOf, placesOf}
@@ -101,3 +103,26 @@ module _ (c : List Net) (fit : Fits c) (pinned : Pinned c) where
       if-false _ (ltb (length c) (mostBack c)) _ _ (refusedWiring Looped) (ap (ltb (length c)) (back-laid c fit)) (λ f.
       levels-judged (pins-named c e) (ltb-false (length c) (mostBack c) f) _ _ (levels-laid c fit)
       (ap (λ levels. highest levels (length c)) (levels-laid c fit) ∙ depth-laid c fit)))
+
+-- a wiring that passes has the order and the sets
+pub wired-passed : (c : List Net) → wiredOf c .verdict ≡ Passed
+    → wiredOf c ≡ passedWiring (gateOrder c) (setWords c)
+unfolding wiredOf
+wired-passed c = go (pinsFit c) (ltb (length c) (mostBack c)) (ltb 63 (depth c)) (ltb 4096 (length (stepList c)))
+  where
+    good : Wired
+    good = passedWiring (gateOrder c) (setWords c)
+
+    never : (r : Refusal) → Refused r ≡ Passed → ⊥
+    never r e = let z : _≡_ {A = ℕ} 0 1 = cc in omega arith
+
+    go : (a b d e : Bool)
+        → (cond a (cond b (refusedWiring Looped) (cond d (refusedWiring TooDeep)
+        (cond e (refusedWiring TooManySteps) good))) (refusedWiring NoSuchPin)) .verdict ≡ Passed
+        → cond a (cond b (refusedWiring Looped) (cond d (refusedWiring TooDeep)
+        (cond e (refusedWiring TooManySteps) good))) (refusedWiring NoSuchPin) ≡ good
+    go false b d e h = absurd (never _ h)
+    go true true d e h = absurd (never _ h)
+    go true false true e h = absurd (never _ h)
+    go true false false true h = absurd (never _ h)
+    go true false false false h = refl

@@ -13,9 +13,9 @@ use Rattle.lists.specs.Entries.{_∈_}
 use Rattle.lists.specs.Listed.{listed}
 use Rattle.lists.proofs.Listed.{listed-more, listed-set, out-listed}
 use Rattle.rule.specs.Net.{openPin, atPin}
-use Rattle.rule.specs.Run.{made, step, run}
+use Rattle.rule.specs.Run.{step, run}
 use Rattle.rule.proofs.Nets.{not-open}
-use Rattle.rule.proofs.Runs.{step-own, step-leaves-others, run-append, run-leaves-others}
+use Rattle.rule.proofs.Runs.{step-own, step-leaves-others, made-is, run-more, run-leaves-others}
 use Rattle.card_wiring.proofs.Pins.{pins-read}
 
 self : (g : ℕ) → eqb g g ≡ true
@@ -33,12 +33,12 @@ module _ (pins : ℕ → List ℕ) (fn : ℕ → List ℕ → ℕ) (start : ℕ 
   -- one gate more
   along-step : (n g : ℕ) (order : List ℕ) → n ≤ 256 → ((p : ℕ) → p ∈ pins g → (p < n) ⊎ (p ≡ openPin)) → g < 256 → ((x : ℕ) → x ∈ order → x < 256)
       → set (listed (along order) 256) g (fn g (map (atPin loose (λ m. getD (listed (along order) 256) m 0)) (pins g))) ≡ listed (along (order ++ (g ∷ []))) 256
-  unfolding run made
   along-step n g order few named l below =
       listed-set (along order) (step eqb pins fn (along order) g) 256 g _ l
-      (step-own eqb pins eqb-true self fn (along order) g ∙ ap (fn g) (sym (pins-read (along order) loose n (pins g) few named (open-along order below))))
+      (step-own eqb pins eqb-true self fn (along order) g ∙ made-is eqb pins eqb-true self fn (along order) g
+      ∙ ap (fn g) (sym (pins-read (along order) loose n (pins g) few named (open-along order below))))
       (λ x b q. step-leaves-others eqb pins eqb-true self fn (along order) g x (ne-eqb x g q))
-      ∙ ap (λ s. listed s 256) (sym (run-append eqb pins eqb-true self fn start order (g ∷ [])))
+      ∙ ap (λ s. listed s 256) (sym (run-more eqb pins eqb-true self fn start order g))
 
   -- gate g, the i-th of an order, with what it makes of its pins' entries
   pub pass-more : (n : ℕ) → n ≤ 256 → ((g p : ℕ) → p ∈ pins g → (p < n) ⊎ (p ≡ openPin)) → (f : ℕ → ℕ) (i : ℕ) → ((j : ℕ) → j ≤ i → f j < 256)

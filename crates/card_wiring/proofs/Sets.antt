@@ -6,7 +6,7 @@ use Prim.Native.Nat.{ℕ, zero, suc, _+_, _^_, _≤_, _<_}
 use native.Mathlib.Omega.{arith}
 use lib.Dec.{eqb, ltb}
 use lib.ListN.{getD, set, replicate}
-use borrow.Author.Tests.{lt-ltb, le-ltb}
+use borrow.Author.Tests.{eq-eqb, eqb-true, lt-ltb, le-ltb}
 use Rattle.lists.specs.Entries.{some, sum}
 use Rattle.lists.specs.Listed.{listed, upto}
 use Rattle.lists.proofs.Joined.{sum-append}
@@ -17,7 +17,7 @@ use Rattle.word.specs.Times.{count}
 use Rattle.word.proofs.Words.{is-word}
 use Rattle.rule.specs.Net.{atPin}
 use Rattle.rule.proofs.Nets.{at-open, at-net, not-open}
-use Rattle.rule.specs.Run.{run}
+use Rattle.rule.proofs.Runs.{run-none}
 use Rattle.card_wiring.specs.Layout.{pinsAt}
 use Rattle.card_wiring.specs.Inner.Wires.{Fitting, joined, sourceSet, setsAlong, sizesOf}
 use Rattle.card_wiring.proofs.Passes.{pass-more}
@@ -49,8 +49,9 @@ sources-all counts n sets e =
     (λ j l b. sym (at-net 1 (λ h. val (ltb h n && eqb (getD counts h 0) 0)) j (not-open j (omega arith)) ∙ rw (le-ltb j n l)))
 
 pub along-none : (counts places : List ℕ) (n : ℕ) (f : ℕ → ℕ) → listed (sourceSet counts n) 256 ≡ setsAlong counts places n (listed f 0)
-unfolding setsAlong run
-along-none counts places n f = rw (listed-none f)
+unfolding setsAlong
+along-none counts places n f =
+    rw (listed-none f) (ap (λ s. listed s 256) (sym (run-none eqb (pinsAt counts places) eqb-true (λ k. eq-eqb k k refl) joined (sourceSet counts n))))
 
 -- gate g, the i-th of an order, with the set r that it makes of its pins' sets
 pub along-more : (counts places : List ℕ) (n : ℕ) → n ≤ 256 → Fitting counts places n → (f : ℕ → ℕ) → ((i : ℕ) → f i < 256)

@@ -1,8 +1,8 @@
 -- Gates counted backwards over arrays: the highest of one more, a sweep, and that a sweep that changes nothing is the last. Assumes nothing.
 use mathlib.Core.Path.{_≡_, sym, ap, _∙_}
 use mathlib.Core.List.{List, [], _∷_, _++_, map, map-append}
-use Prim.Native.Nat.{ℕ, zero, suc, _+_, _-_, _≤_, _<_, max}
-use native.Mathlib.Nat.{add-zero, add-suc, zero-add}
+use Prim.Native.Nat.{ℕ, suc, _+_, _-_, _≤_, _<_, max}
+use native.Mathlib.Nat.{zero-add}
 use native.Mathlib.Numerals.{add-one}
 use native.Mathlib.Omega.{arith}
 use native.Mathlib.Decide.{decLt}
@@ -10,13 +10,12 @@ use lib.ListN.{length, getD, replicate}
 use borrow.Author.Tests.{lt-ltb, le-ltb}
 use Rattle.lists.specs.Entries.{from}
 use Rattle.lists.specs.Listed.{listed, upto}
-use Rattle.lists.proofs.Tests.{map-ext}
 use Rattle.lists.proofs.Joined.{from-more}
 use Rattle.lists.proofs.Listed.{length-listed, map-listed, listed-at, listed-ext, listed-all, listed-same}
 use Rattle.rule.specs.Net.{openPin, atPin}
 use Rattle.rule.specs.Level.{most, over, longest}
-use Rattle.rule.proofs.Levels.{most-le, back-le, longest-none}
-use Rattle.rule.proofs.Nets.{at-pin-all}
+use Rattle.rule.proofs.Levels.{most-le, back-le, longest-start, longest-more, longest-none, longest-stays}
+use Rattle.rule.proofs.Nets.{at-pin-all, open-is}
 use Rattle.card_wiring.specs.Layout.{pinsAt}
 use Rattle.card_wiring.specs.Inner.Wires.{Wires, Fitting, backs, highest}
 use Rattle.card_wiring.proofs.Pins.{map-more, pins-read, no-pins}
@@ -54,14 +53,7 @@ pub backs-le : (counts places : List ℕ) (k i : ℕ) → getD (backs (λ g. 1) 
 backs-le counts places k i = listed-all (λ x. x ≤ k) (longest (λ g. 1) (pinsAt counts places) k) 256 i 0 (back-le (pinsAt counts places) k i) (omega arith)
 
 pub backs-none : (w : ℕ → ℕ) (counts places : List ℕ) → replicate 256 0 ≡ backs w counts places 0
-unfolding longest
-backs-none w counts places = listed-same 0 256
-
--- where one gate more changes nothing, no more do: over any pins and weights
-longest-stays : (w : ℕ → ℕ) (pins : ℕ → List ℕ) (k : ℕ) → ((g : ℕ) → longest w pins (suc k) g ≡ longest w pins k g) → (j g : ℕ) → longest w pins (k + j) g ≡ longest w pins k g
-unfolding longest
-longest-stays w pins k h zero g = rw (add-zero k)
-longest-stays w pins k h (suc j) g = rw (add-suc k j) (ap (over (w g)) (map-ext (longest w pins (k + j)) (longest w pins k) (pins g) (longest-stays w pins k h j)) ∙ h g)
+backs-none w counts places = listed-same 0 256 ∙ listed-ext (λ g. 0) _ 256 (λ g b. sym (longest-start (pinsAt counts places) w g))
 
 -- Sweeps, by any weights
 
@@ -75,10 +67,10 @@ module _ (w : ℕ → ℕ) (counts places : List ℕ) (n : ℕ) (wires : Wires c
   -- one net more is swept; all of them
   pub swept : (k g : ℕ) (old : List ℕ) → Fitting counts places n → old ≡ backs w counts places k
       → over (w g) (map (atPin 0 (λ m. getD old m 0)) (pinsAt counts places g)) ≡ back (k + 1) g
-  unfolding longest openPin
   swept k g old fitting e =
       let few = wires .few in
-      rw (add-one k, e) (ap (over (w g)) (pins-read (back k) 0 n (pinsAt counts places g) few (fitting g) (past-none k openPin (omega arith))))
+      rw (add-one k, longest-more (pinsAt counts places) w k g, e)
+      (ap (over (w g)) (pins-read (back k) 0 n (pinsAt counts places g) few (fitting g) (past-none k openPin (omega (arith, open-is)))))
 
   pub all-swept : (k : ℕ) → listed (upto (back k) (λ g. 0) n) 256 ≡ backs w counts places k
   all-swept k = listed-ext (upto (back k) (λ g. 0) n) (back k) 256 (λ g b. go g (decLt g n))
@@ -91,7 +83,7 @@ module _ (w : ℕ → ℕ) (counts places : List ℕ) (n : ℕ) (wires : Wires c
   pub sweeps-end : (k j : ℕ) → backs w counts places k ≡ backs w counts places (k + 1) → k ≤ j → backs w counts places k ≡ backs w counts places j
   sweeps-end k j e l =
       let x : k + (j - k) ≡ j = omega arith in
-      listed-ext (back k) (back j) 256 (λ g b. sym (rw x at (longest-stays w (pinsAt counts places) k unchanged (j - k) g)))
+      listed-ext (back k) (back j) 256 (λ g b. sym (rw x at (longest-stays (pinsAt counts places) w k unchanged (j - k) g)))
     where
       unchanged : (g : ℕ) → back (suc k) g ≡ back k g
       unchanged g = go (decLt g 256)

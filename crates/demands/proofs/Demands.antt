@@ -37,7 +37,7 @@ use Rattle.session.proofs.Refusals.{rest-takes, vector-takes}
 use Rattle.session.proofs.Rules.{rest-settles, rest-flat, vector-rule}
 use Rattle.session.proofs.Sequences.{Stands, rest-stands, after-stands, sequence-rule, sequence-stands}
 use Rattle.history.specs.Told.{Roomy, historyOf}
-use Rattle.history.proofs.Flags.{flag-cong, flat-flag}
+use Rattle.rule.proofs.Flags.{flag-cong, flat-flag}
 use Rattle.history.proofs.Histories.{history-0, history-count, history-shows}
 use Rattle.step_orders.specs.Orders.{stepsOf, orderJudged}
 use Rattle.step_orders.proofs.Judging.{Fit, good-fit, Judgement, judgement, gets-15 as judged-15, gets-16 as judged-16, gets-17 as judged-17, taken as judged-taken}

@@ -16,7 +16,7 @@ use Rattle.gate.specs.Inner.Pins.{byPins}
 use Rattle.rule.specs.Net.{openValue}
 use Rattle.rule.specs.Run.{run}
 use Rattle.rule.proofs.Nets.{at-open, at-net, not-open}
-use Rattle.rule.proofs.Runs.{run-leaves-others}
+use Rattle.rule.proofs.Runs.{run-none, run-leaves-others}
 use Rattle.card_wiring.specs.Layout.{pinsAt}
 use Rattle.card_wiring.specs.Inner.Wires.{Fitting}
 use Rattle.card_wiring.proofs.Gathered.{gather-gate}
@@ -45,9 +45,9 @@ field-made words counts places g low i ty all r one hi ha l h = is-word 64 (move
 -- A pass
 
 pub passed-none : (before : List Bool) (types counts places words : List ℕ) (f : ℕ → ℕ) → length words ≡ 256 → words ≡ passed before types counts places words (listed f 0)
-unfolding passed run
+unfolding passed
 passed-none before types counts places words f e =
-    rw (listed-none f)
+    rw (listed-none f, run-none eqb (pinsAt counts places) eqb-true (λ k. eq-eqb k k refl) (fieldAt before types) (pinWord words))
     (is-listed (pinWord words) 256 0 words e (λ i l. sym (at-net (wordOf 64 (λ t. openValue)) (λ m. getD words m 0) i (not-open i (omega arith)))))
 
 -- gate g, the i-th of an order, with the field r that it makes of its pins' words

@@ -1,13 +1,12 @@
--- The changes of a net: what is one, how they are counted along the times, and what they depend on. Assumes nothing.
-use mathlib.Core.Path.{_≡_, refl, ap₂, _∙_}
+-- The changes of a net: what is one, and how they are counted along the times. Assumes nothing.
+use mathlib.Core.Path.{_≡_, refl, _∙_}
 use mathlib.Core.Bool.{Bool, true, false, not, Bool·beq}
-use Prim.Native.Nat.{ℕ, zero, suc, _+_, _<_}
+use Prim.Native.Nat.{ℕ, _+_}
 use native.Mathlib.Numerals.{add-one}
-use native.Mathlib.Omega.{arith}
 use Rattle.word.specs.Word.{val, differ, movedUp}
 use Rattle.word.specs.Times.{count}
-use Rattle.word.proofs.Sets.{count-more, count-cong}
-use Rattle.rule.specs.Flag.{changedAt, changes}
+use Rattle.word.proofs.Sets.{count-more}
+use Rattle.rule.specs.Flag.{changedAt}
 
 -- `a ^ b`
 pub differ-is : (a b : Bool) → not (Bool·beq a b) ≡ differ a b
@@ -24,12 +23,3 @@ one-later b f t = rw (add-one t)
 pub changes-more : (b : Bool) (f : ℕ → Bool) (t n k : ℕ) (value last : Bool) → n ≡ count (changedAt b f) t → last ≡ movedUp b f t → value ≡ f t → k ≡ val (not (Bool·beq value last))
     → n + k ≡ count (changedAt b f) (t + 1)
 changes-more b f t n k value last en el ev ek = count-more (changedAt b f) t n k en (ek ∙ rw (ev, el, differ-is (f t) (movedUp b f t)))
-
--- changes are told by the before value and the values at times 0 to 63
-pub changed-cong : (a b : Bool) (f g : ℕ → Bool) → a ≡ b → ((t : ℕ) → t < 64 → f t ≡ g t) → (t : ℕ) → t < 64 → changedAt a f t ≡ changedAt b g t
-changed-cong a b f g e h zero l = ap₂ differ (h 0 l) e
-changed-cong a b f g e h (suc t) l = ap₂ differ (h (suc t) l) (h t (omega arith))
-
-pub changes-cong : (a b : Bool) (f g : ℕ → Bool) → a ≡ b → ((t : ℕ) → t < 64 → f t ≡ g t) → changes a f ≡ changes b g
-unfolding changes
-changes-cong a b f g e h = count-cong (changedAt a f) (changedAt b g) 64 (changed-cong a b f g e h)

@@ -1,34 +1,18 @@
 -- The hazard flag: its four cases in document 01's words, and that they are all there is, since the number of changes is even exactly when
 -- the ends are equal. Assumes nothing.
-use mathlib.Core.Path.{_≡_, refl, sym, ap₂, _∙_, subst}
-use mathlib.Core.Bool.{Bool, true, false, cond, Bool·beq, true≢false, false≢true}
+use mathlib.Core.Path.{_≡_, refl, sym, ap, _∙_, subst}
+use mathlib.Core.Bool.{Bool, true, false, Bool·beq, true≢false, false≢true}
 use mathlib.Core.Logic.{_↔_}
 use Prim.Native.Nat.{ℕ, zero, suc, _+_, _%_, _≤_, _<_}
 use native.Mathlib.Omega.{arith}
 use native.Mathlib.Decide.{ℕ-discrete}
-use lib.Dec.{eqb}
-use borrow.Author.Tests.{eq-eqb, ne-eqb}
 use Rattle.lists.proofs.Bools.{not-both}
 use Rattle.word.specs.Word.{val, differ}
 use Rattle.word.specs.Times.{count}
 use Rattle.word.proofs.Words.{val-lt}
+use Rattle.word.proofs.Sets.{count-start, count-last}
 use Rattle.rule.specs.Flag.{changedAt, changes, flagOf}
-use Rattle.history.proofs.Changes.{changes-cong}
-
--- Its tests
-
-module _ (b : Bool) (f : ℕ → Bool) where
-  pub none-is : changes b f ≡ 0 → flagOf b f ≡ 0
-  unfolding flagOf
-  none-is e = rw (eq-eqb (changes b f) 0 e)
-
-  pub one-is : ¬ (changes b f ≡ 0) → changes b f ≡ 1 → flagOf b f ≡ 1
-  unfolding flagOf
-  one-is n e = rw (ne-eqb (changes b f) 0 n, eq-eqb (changes b f) 1 e)
-
-  pub many-is : ¬ (changes b f ≡ 0) → ¬ (changes b f ≡ 1) → (x : Bool) → Bool·beq b (f 63) ≡ x → flagOf b f ≡ cond x 2 3
-  unfolding flagOf
-  many-is n m x e = rw (ne-eqb (changes b f) 0 n, ne-eqb (changes b f) 1 m, e)
+use Rattle.rule.proofs.Flags.{changes-counted, none-is, one-is, many-is}
 
 -- The parity of the changes
 
@@ -43,9 +27,8 @@ one-change-more false false true k e = omega arith
 one-change-more false false false k e = omega arith
 
 pub parity : (b : Bool) (f : ℕ → Bool) (n : ℕ) → count (changedAt b f) (suc n) % 2 ≡ val (differ (f n) b)
-unfolding count
-parity b f zero = omega (arith, val-lt (differ (f 0) b))
-parity b f (suc n) = one-change-more (f (suc n)) (f n) b (count (changedAt b f) (suc n)) (parity b f n)
+parity b f zero = rw (count-last (changedAt b f) 0, count-start (changedAt b f)) (omega (arith, val-lt (differ (f 0) b)))
+parity b f (suc n) = ap (λ k. k % 2) (count-last (changedAt b f) (suc n)) ∙ one-change-more (f (suc n)) (f n) b (count (changedAt b f) (suc n)) (parity b f n)
 
 ends-same : (b x : Bool) (k : ℕ) → k % 2 ≡ val (differ x b) → (k % 2 ≡ 0) ↔ (b ≡ x)
 ends-same true true k e = (λ z. refl, λ q. e)
@@ -55,8 +38,7 @@ ends-same false false k e = (λ z. refl, λ q. e)
 
 -- the number of changes is even exactly when the ends are equal
 pub even-ends : (b : Bool) (f : ℕ → Bool) → (changes b f % 2 ≡ 0) ↔ (b ≡ f 63)
-unfolding changes
-even-ends b f = ends-same b (f 63) (changes b f) (parity b f 63)
+even-ends b f = ends-same b (f 63) (changes b f) (ap (λ k. k % 2) (changes-counted b f) ∙ parity b f 63)
 
 -- The four cases
 
@@ -128,18 +110,3 @@ module _ (b : Bool) (f : ℕ → Bool) where
       go (suc (suc zero)) h = omega arith
       go (suc (suc (suc zero))) h = omega arith
       go (suc (suc (suc (suc k)))) h = absurd h
-
--- The flag is told by the before value and the values at times 0 to 63
-
-pub flag-cong : (a b : Bool) (f g : ℕ → Bool) → a ≡ b → ((t : ℕ) → t < 64 → f t ≡ g t) → flagOf a f ≡ flagOf b g
-unfolding flagOf
-flag-cong a b f g e h =
-    let k = changes-cong a b f g e h in
-    let q : Bool·beq a (f 63) ≡ Bool·beq b (g 63) = ap₂ Bool·beq e (h 63 (omega arith)) in
-    ap₂ (λ n x. cond (eqb n 0) 0 (cond (eqb n 1) 1 (cond x 2 3))) k q
-
--- a net that stands still has flag 0
-pub flat-flag : (b : Bool) → flagOf b (λ t. b) ≡ 0
-unfolding flagOf changes count
-flat-flag true = refl
-flat-flag false = refl

@@ -19,12 +19,13 @@ use Rattle.rule.specs.declared.Refusal.{Refusal}
 use Rattle.rule.specs.declared.Refusal.the-variants.{NotReady, NoRoom}
 use Rattle.rule.specs.declared.Answer.{Answer}
 use Rattle.rule.specs.declared.Answer.the-variants.{Done, Refused}
+use Rattle.rule.proofs.Flags.{flag-cong}
 use Rattle.card.specs.declared.Session.{Session}
 use Rattle.card.specs.Session.{wordAt, beforeAt}
 use Rattle.card.proofs.Kept.{few}
 use Rattle.session.specs.Good.{Rested, Good}
 use Rattle.history.specs.Told.{Told, Roomy, beforeByte, flagAt, historyOf}
-use Rattle.history.proofs.Flags.{Hazard, flag-is, flag-cong}
+use Rattle.history.proofs.Flags.{Hazard, flag-is}
 use Rattle.history.proofs.Ran.{holds, ruleValue, before-is, value-is}
 
 -- an answer that leaves the three slices as they were

@@ -12,8 +12,7 @@ use Rattle.lists.specs.Listed.{listed}
 use Rattle.lists.proofs.Tests.{every-no}
 use Rattle.lists.proofs.Listed.{listed-self, in-listed}
 use Rattle.word.specs.Word.{isOne, val}
-use Rattle.word.specs.Times.{count}
-use Rattle.word.proofs.Sets.{count-le, count-more}
+use Rattle.word.proofs.Sets.{count-start, count-le, count-more}
 use Rattle.inputs.specs.Inputs.{isInputKind, rank, given, byteFits}
 use Rattle.inputs.specs.Allowed.{byteLimit}
 
@@ -38,8 +37,8 @@ one-unfit v i l h =
 
 module _ (kinds : List ℕ) where
   pub rank-none : rank kinds 0 ≡ 0
-  unfolding rank count
-  rank-none = refl
+  unfolding rank
+  rank-none = count-start (λ m. isInputKind (getD kinds m 0))
 
   rank-step : (n : ℕ) → rank kinds n + val (isInputKind (getD kinds n 0)) ≡ rank kinds (n + 1)
   unfolding rank

@@ -137,3 +137,12 @@ map-listed g f n = go 0 n
     go : (a n : ℕ) → map g (listedFrom f a n) ≡ listedFrom (λ i. g (f i)) a n
     go a zero = refl
     go a (suc n) = ap (λ l. g (f a) ∷ l) (go (suc a) n)
+
+-- one more at the front
+pub listed-first : {A : Type 0} (f : ℕ → A) (n : ℕ) → listed f (suc n) ≡ f 0 ∷ listed (λ i. f (suc i)) n
+unfolding listed listedFrom
+listed-first {A} f n = ap (λ l. f 0 ∷ l) (go 0 n)
+  where
+    go : (a n : ℕ) → listedFrom f (suc a) n ≡ listedFrom (λ i. f (suc i)) a n
+    go a zero = refl
+    go a (suc n) = ap (λ l. f (suc a) ∷ l) (go (suc a) n)

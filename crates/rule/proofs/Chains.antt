@@ -50,3 +50,12 @@ module _ (c : List Net) where
   pub set-reach : (n t : ℕ) → pcSet c n (suc t) ≡ some (λ p. leb 0 t && pcSet c p (t - 0)) (pins c n)
   unfolding pcSet
   set-reach n t = simp (leb·zero, sub-zero)
+
+  -- 0 is in the set of an input, a constant and an open pin, and t + 1 where t is in a pin's
+  pub set-start : (n : ℕ) → pcSet c n 0 ≡ isSource (netAt c n)
+  unfolding pcSet
+  set-start n = refl
+
+  pub set-next : (n t : ℕ) → pcSet c n (suc t) ≡ some (λ p. pcSet c p t) (pins c n)
+  unfolding pcSet
+  set-next n t = refl

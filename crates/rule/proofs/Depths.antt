@@ -40,6 +40,15 @@ pub level-depth : (c : List Net) (n : ℕ) → level c n ≤ depth c
 unfolding level depth
 level-depth c n = longest-most c (delay c) (length c + 1) n
 
+-- and some net has it: where the depth is above k a level is
+one-above : (f : ℕ → ℕ) (ns : List ℕ) (k : ℕ) → k < most (map f ns) → (n : ℕ) × (k < f n)
+one-above f [] k l = absurd (omega arith)
+one-above f (n ∷ ns) k l = let b = most-at f n ns in (b .0, omega (arith, b .2))
+
+pub depth-above : (c : List Net) (k : ℕ) → k < depth c → (n : ℕ) × (k < level c n)
+unfolding depth
+depth-above c k l = one-above (level c) (from 0 (length c)) k l
+
 module _ (c : List Net) (free : ¬ Looped c) where
   -- counted backwards no way has more gates than there are nets
   pub counted : (n : ℕ) → gatesBack c (length c + 1) n < length c + 1

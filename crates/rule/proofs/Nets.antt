@@ -21,6 +21,11 @@ pub at-net : {A : Type 0} (loose : A) (f : ℕ → A) (p : ℕ) → ¬ (p ≡ op
 unfolding atPin
 at-net loose f p h = rw (ne-eqb p openPin h)
 
+-- what a pin finds in two functions that agree on it
+pub at-pin-same : {A : Type 0} (loose : A) (f g : ℕ → A) (p : ℕ) → f p ≡ g p → atPin loose f p ≡ atPin loose g p
+unfolding atPin
+at-pin-same loose f g p e = ap (cond (eqb p openPin) loose) e
+
 -- what holds of the open pin's and of each net's holds of every pin's
 pub at-pin-all : {A : Type 0} (P : ℕ → A → Type 0) (loose : A) (f : ℕ → A) (p : ℕ) → P openPin loose → P p (f p) → P p (atPin loose f p)
 unfolding atPin
@@ -29,6 +34,11 @@ at-pin-all P loose f p a b = go (eqb p openPin) refl
     go : (x : Bool) → eqb p openPin ≡ x → P p (cond x loose (f p))
     go true e = subst (λ q. P q loose) (sym (eqb-true p openPin e)) a
     go false e = b
+
+-- "Pin value 65535 is an open pin."
+pub open-is : openPin ≡ 65535
+unfolding openPin
+open-is = refl
 
 -- a number below 65,535 is not the open pin's
 pub not-open : (n : ℕ) → n < 65535 → ¬ (n ≡ openPin)
@@ -44,6 +54,11 @@ net-open c = at-open (constant openValue) (λ m. getD c m (constant false))
 pub net-here : (c : List Net) (n : ℕ) → n < 65535 → netAt c n ≡ getD c n (constant false)
 unfolding netAt
 net-here c n l = at-net (constant openValue) (λ m. getD c m (constant false)) n (not-open n l)
+
+-- past the card, and not the open pin's number, is a constant 0
+pub net-past : (c : List Net) (n : ℕ) → length c ≤ n → ¬ (n ≡ openPin) → netAt c n ≡ constant false
+unfolding netAt
+net-past c n l h = at-net (constant openValue) (λ m. getD c m (constant false)) n h ∙ List·getD-eq-default c (constant false) l
 
 -- "A net is an input, a constant, or the output of one gate."
 pub data NetIs (w : Net) : Type 0 where

@@ -1,17 +1,18 @@
 -- The step list: it has every step once and nothing else, by level, net and time; it is itself a good order; it has as many entries as
 -- there are pairs of a gate and a time with a chain. Assumes nothing.
 use mathlib.Core.Path.{_≡_, refl, sym, ap, _∙_}
-use mathlib.Core.Bool.{true}
+use mathlib.Core.Bool.{Bool, true, false}
 use mathlib.Core.List.{List, [], _∷_, List·Memᴰ·head, List·Memᴰ·eq-of-singleton}
 use mathlib.Core.Logic.{inl, inr}
 use Prim.Native.Nat.{ℕ, _≤_, _<_}
 use native.Mathlib.Omega.{arith}
 use lib.ListN.{length}
-use Rattle.lists.specs.Entries.{_∈_, each, when, from, Sorted, Distinct, Number}
-use Rattle.lists.proofs.Joined.{in-from, out-from, in-each, out-each, in-when, out-when}
+use Rattle.lists.specs.Entries.{_∈_, each, when, from, sum, Sorted, Distinct, Number}
+use Rattle.lists.proofs.Joined.{in-from, out-from, in-each, out-each, in-when, out-when, each-ext, length-each, sum-on}
 use Rattle.lists.proofs.Order.{sorted-from, sorted-each, sorted-when, sorted-one, sorted-weaken, distinct-of-sorted}
 use Rattle.lists.proofs.Number.{number-unique}
 use Rattle.lists.proofs.Tests.{out-map}
+use Rattle.word.specs.Word.{val}
 use Rattle.rule.specs.Net.{Net, pins, Pinned}
 use Rattle.rule.specs.Chain.{pcSet}
 use Rattle.rule.specs.Level.{level, depth, Looped}
@@ -38,6 +39,24 @@ module _ (c : List Net) where
   in-net d n t e h l =
       in-each (λ u. when (pcSet c n u) (record { net = n; time = u } ∷ [])) (from 1 d) t _ (in-from 1 d t h (omega arith))
       (in-when (pcSet c n t) _ _ e (List·Memᴰ·head refl))
+
+  -- the list is made gate by gate, whatever lists are known to be the gates' steps
+  pub list-by-gates : (f : ℕ → List Step) → ((n : ℕ) → n ∈ gateOrder c → f n ≡ netSteps c (depth c) n) → each f (gateOrder c) ≡ stepList c
+  unfolding stepList
+  list-by-gates f h = each-ext f (netSteps c (depth c)) (gateOrder c) h
+
+  -- a net has as many steps up to d as its set has elements from 1 to d, and the list has those of all gates
+  pub net-length : (d n : ℕ) → length (netSteps c d n) ≡ sum (λ t. val (pcSet c n t)) (from 1 d)
+  unfolding netSteps
+  net-length d n = length-each _ (from 1 d) ∙ sum-on _ (λ t. val (pcSet c n t)) (from 1 d) (λ t m. one (record { net = n; time = t }) (pcSet c n t))
+    where
+      one : (k : Step) (b : Bool) → length (when b (k ∷ [])) ≡ val b
+      one k true = refl
+      one k false = refl
+
+  pub list-length : length (stepList c) ≡ sum (λ n. length (netSteps c (depth c) n)) (gateOrder c)
+  unfolding stepList
+  list-length = length-each (netSteps c (depth c)) (gateOrder c)
 
   -- nothing but steps stands in the list,
   pub list-only : (k : Step) → k ∈ stepList c → IsStep c k

@@ -18,7 +18,7 @@ use Rattle.word.proofs.Sets.{count-cong}
 use Rattle.rule.specs.Net.{Net, constant, netAt, pins, isInput, isSource}
 use Rattle.rule.specs.Rule.{value}
 use Rattle.rule.specs.Steps.{gateOrder}
-use Rattle.rule.proofs.Nets.{not-open, gate-listed}
+use Rattle.rule.proofs.Nets.{not-open, net-past, gate-listed}
 use Rattle.rule.proofs.GateOrders.{out-order, order-once}
 use Rattle.card_wiring.specs.Layout.{kindOf, typeOf, kindsOf, typesOf}
 use Rattle.card_wiring.specs.Inner.Wires.{Fits, Gates}
@@ -37,7 +37,6 @@ use Rattle.card.proofs.Reading.{inputs-laid, inputs-all-counted}
 use Rattle.card.proofs.Kept.{inputs-are, kinds-are, types-are, counts-are, places-are, feeds-are, card-fits, order-back, order-fits}
 use Rattle.session.specs.Good.{histories}
 use Rattle.session.specs.Moves.{givenTo}
-use Rattle.session.proofs.States.{net-past}
 use Rattle.session.proofs.Histories.{pass-histories, put-still, put-ends}
 
 -- a pass over the same arrays

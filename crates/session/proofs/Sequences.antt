@@ -25,7 +25,7 @@ use Rattle.session.specs.Moves.{givenTo, ends, movedBy, vectorOf, rested
 use Rattle.session.specs.Sequence.{after, stateAfter}
 use Rattle.session.proofs.Held.{given-card}
 use Rattle.session.proofs.Refusals.{rest-takes, vector-takes}
-use Rattle.session.proofs.Kept.{rest-good, vector-good}
+use Rattle.session.proofs.Kept.{moved-card, rested-card, rest-good, vector-good}
 use Rattle.session.proofs.Rules.{rest-only, rest-flat, vector-rule}
 
 -- a rested session of a card, whose next vector starts from a state
@@ -37,12 +37,12 @@ pub record Stands (c : List Net) (inputs : ℕ) (state : ℕ → Bool) (t : Sess
   pub ends-are : (n : ℕ) → n < length c → ends t n ≡ state n
 
 moved-same : (t : Session) (new : ℕ → Bool) → (movedBy t new .rested ≡ t .rested) × (cardOf (movedBy t new) ≡ cardOf t) × (movedBy t new .inputs ≡ t .inputs)
-unfolding movedBy cardOf
-moved-same t new = (refl, refl, refl)
+unfolding movedBy
+moved-same t new = (refl, moved-card t new, refl)
 
 rested-same : (t : Session) (new : ℕ → Bool) → (restedBy t new .rested ≡ true) × (cardOf (restedBy t new) ≡ cardOf t) × (restedBy t new .inputs ≡ t .inputs)
-unfolding restedBy cardOf
-rested-same t new = (refl, refl, refl)
+unfolding restedBy
+rested-same t new = (refl, rested-card t new, refl)
 
 -- one vector more
 

@@ -1,22 +1,17 @@
 -- States of a card: what a rest depends on, that it is kept, and what stands past the card. Assumes nothing.
 use mathlib.Core.Path.{_≡_, sym, ap, ap₂, _∙_}
-use mathlib.Core.Bool.{Bool, false, cond}
+use mathlib.Core.Bool.{Bool, false}
 use mathlib.Core.List.{List, map}
 use mathlib.Core.Logic.{_⊎_, inl, inr}
 use Prim.Native.Nat.{ℕ, zero, suc, _≤_, _<_}
-use lib.Dec.{eqb}
-use lib.ListN.{length, getD, List·getD-eq-default}
+use lib.ListN.{length}
 use Rattle.lists.proofs.Tests.{map-on, map-ext}
-use Rattle.rule.specs.Net.{Net, constant, openPin, openValue, atPin, netAt, pins, Named}
+use Rattle.rule.specs.Net.{Net, openPin, openValue, atPin, netAt, pins, Named}
 use Rattle.rule.specs.Rule.{netFn, value, AtRest, Rest}
-use Rattle.rule.proofs.Nets.{at-open, at-net}
+use Rattle.rule.proofs.Nets.{at-open, at-pin-same, net-past}
 use Rattle.rule.proofs.Values.{net-given, constant-is, open-reads, moves, first-stays}
 
 -- past the card, and not the open pin's number, is a constant 0
-pub net-past : (c : List Net) (n : ℕ) → length c ≤ n → ¬ (n ≡ openPin) → netAt c n ≡ constant false
-unfolding netAt
-net-past c n l h = at-net (constant openValue) (λ m. getD c m (constant false)) n h ∙ List·getD-eq-default c (constant false) l
-
 pub past-zero : (c : List Net) (before new : ℕ → Bool) (n t : ℕ) → length c ≤ n → ¬ (n ≡ openPin) → value c before new n t ≡ false
 past-zero c before new n t l h = constant-is c before new n t false (net-past c n l h)
 
@@ -28,11 +23,10 @@ module _ (c : List Net) where
   module _ (named : Named c) where
     -- what a net's pins read depends on the card's nets alone
     pins-same : (v w : ℕ → Bool) → Same v w → (n : ℕ) → map (atPin openValue v) (pins c n) ≡ map (atPin openValue w) (pins c n)
-    unfolding atPin
     pins-same v w h n = map-on (atPin openValue v) (atPin openValue w) (pins c n) (λ p m. at p (named n p m))
       where
         at : (p : ℕ) → (p < length c) ⊎ (p ≡ openPin) → atPin openValue v p ≡ atPin openValue w p
-        at p (inl l) = ap (cond (eqb p openPin) openValue) (h p l)
+        at p (inl l) = at-pin-same openValue v w p (h p l)
         at p (inr q) = rw q (at-open openValue v ∙ sym (at-open openValue w))
 
     -- a state that is the same on the card is settled too

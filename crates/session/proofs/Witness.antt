@@ -24,6 +24,7 @@ use Rattle.card_records.specs.Written.{Bytes}
 use Rattle.card_records.proofs.Example.{exampleBytes, exampleCard, example-read}
 use Rattle.card.specs.declared.Session.{Session}
 use Rattle.card.specs.Session.{none, inputsOf, sessionOf}
+use Rattle.card.proofs.Kept.{session-fresh, session-sizes}
 use Rattle.card.specs.Load.{concluded, judged, loadMeant, loadOf, taken}
 use Rattle.session.specs.Good.{Good}
 use Rattle.session.specs.Moves.{movedBy, vectorOf, restedBy, restOf}
@@ -40,21 +41,23 @@ bytes-below (b ∷ s) e (suc i) = bytes-below s (and-both (ltb b 256) _ e .1) i
 pub exampleLoaded : Session
 exampleLoaded = loadOf none exampleBytes .session
 
-verdict : wiredOf exampleCard .verdict ≡ Passed
-unfolding wiredOf pinsFit mostBack openPin atPin netAt longest level depth gateOrder netSteps stepList pcSet
-verdict = refl
-
-three-inputs : inputsOf exampleCard ≡ 3
-unfolding inputsOf count openPin atPin netAt
-three-inputs = refl
+-- the card passes every test of its wiring, and has three inputs and two gates
+worked-out : (wiredOf exampleCard .verdict ≡ Passed) × (inputsOf exampleCard ≡ 3) × (length (gateOrder exampleCard) ≡ 2)
+unfolding wiredOf pinsFit mostBack openPin atPin netAt longest level depth gateOrder netSteps stepList pcSet inputsOf count
+worked-out = (refl, refl, refl)
 
 pub example-load : loadOf none exampleBytes ≡ taken exampleCard
 unfolding loadOf judged
-example-load = ap (loadMeant none) example-read ∙ rw three-inputs (ap (concluded none (sessionOf exampleCard) (length exampleCard)) verdict)
+example-load = ap (loadMeant none) example-read ∙ rw (worked-out .1) (ap (concluded none (sessionOf exampleCard) (length exampleCard)) (worked-out .0))
 
 card-loaded : (exampleLoaded .loaded ≡ true) × (exampleLoaded .inputs ≡ 3) × (exampleLoaded .gates ≡ 2)
-unfolding exampleLoaded sessionOf openPin atPin netAt longest level depth gateOrder
-card-loaded = (ap (λ x. x .session .loaded) example-load, ap (λ x. x .session .inputs) example-load ∙ three-inputs, ap (λ x. x .session .gates) example-load)
+unfolding exampleLoaded
+card-loaded =
+    let sizes = session-sizes exampleCard in (
+      ap (λ x. x .session .loaded) example-load ∙ session-fresh exampleCard .0,
+      ap (λ x. x .session .inputs) example-load ∙ sizes .0 ∙ worked-out .1,
+      ap (λ x. x .session .gates) example-load ∙ sizes .1 ∙ worked-out .2,
+    )
 
 -- "03000500000101": the rest vector 0 1 1
 

@@ -12,11 +12,12 @@ use Rattle.word.proofs.Words.{bit-word}
 use Rattle.rule.specs.Net.{Net}
 use Rattle.rule.specs.Chain.{pcSet}
 use Rattle.rule.specs.Level.{depth}
-use Rattle.rule.specs.Steps.{Step, IsStep, gateOrder, netSteps, stepList}
+use Rattle.rule.specs.Steps.{Step, IsStep, netSteps, stepList}
 use Rattle.rule.proofs.Nets.{gate-listed}
 use Rattle.rule.proofs.Depths.{level-depth, set-level, element-level}
 use Rattle.rule.proofs.GateOrders.{out-order}
 use Rattle.rule.proofs.StepRuns.{step-time}
+use Rattle.rule.proofs.StepLists.{list-by-gates}
 use Rattle.card.specs.declared.Session.{Session}
 use Rattle.card.specs.Session.{cardOf}
 use Rattle.card.specs.Held.{HasCard}
@@ -57,9 +58,10 @@ module _ (s : Session) (h : HasCard s) where
       at t b = ap (λ w. bit w t) (card-sets s h g l) ∙ bit-word 64 (pcSet c g) t (omega arith)
 
   steps-are : stepsIn (s .sets) (gatesIn (s .order) (s .gates)) ≡ stepList c
-  unfolding stepsIn stepList
+  unfolding stepsIn
   steps-are =
-      ap (each (λ g. timesIn (getD (s .sets) g 0) g 63)) (order-back s h) ∙ each-ext (λ g. timesIn (getD (s .sets) g 0) g 63) (netSteps c (depth c)) (gateOrder c) (λ g m. net-steps g (out-order c g m .1))
+      ap (each (λ g. timesIn (getD (s .sets) g 0) g 63)) (order-back s h)
+      ∙ list-by-gates c (λ g. timesIn (getD (s .sets) g 0) g 63) (λ g m. net-steps g (out-order c g m .1))
 
   -- what the list's filling asks of a card
   pub list-asked : (s .gates ≤ 256) × ((i : ℕ) → getD (s .order) i 0 < 256) × (length (stepsIn (s .sets) (gatesIn (s .order) (s .gates))) ≤ 4096)

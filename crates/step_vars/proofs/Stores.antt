@@ -14,6 +14,8 @@ use Rattle.rule.specs.Net.{openValue}
 use Rattle.rule.specs.Run.{made, step}
 use Rattle.rule.specs.Steps.{Step, sameStep}
 use Rattle.rule.proofs.Nets.{at-net, not-open}
+use Rattle.rule.proofs.Runs.{made-is}
+use Rattle.rule.proofs.StepRuns.{same-one, same-self}
 use Rattle.step_vars.specs.Variables.{heldIn, varsOf, wordsOf, readsIn, fnIn, stepIn}
 use Rattle.step_vars.specs.Inner.Variables.{Words}
 
@@ -34,28 +36,34 @@ module _ (types counts places sets words : List ℕ) (g t : ℕ) where
   abbrev k : Step
   k = record { net = g; time = t }
 
+  abbrev value : Bool
+  value = made sameStep (readsIn counts places sets) (fnIn types) (varsOf words) k
+
+  value-is : value ≡ fnIn types k (map (varsOf words) (readsIn counts places sets k))
+  value-is = made-is sameStep (readsIn counts places sets) same-one same-self (fnIn types) (varsOf words) k
+
   abbrev new : Step → Bool
   new = step sameStep (readsIn counts places sets) (fnIn types) (varsOf words) k
 
   pub step-made : (r : ℕ) (b : Bool) → g < 256 → Words words
       → b ≡ fnIn types k (map (varsOf words) (readsIn counts places sets k)) → r < 2 ^ 64 → ((u : ℕ) → u < 64 → bit r u ≡ cond (eqb u t) b (bit (getD words g 0) u))
       → set words g r ≡ stepIn types counts places sets words k
-  unfolding stepIn wordsOf step made
-  step-made r b l are made-is small put =
+  unfolding stepIn wordsOf step
+  step-made r b l are gives small put =
       ap (λ xs. set xs g r) (is-listed (λ n. getD words n 0) 256 0 words (are .size) (λ i h. refl))
       ∙ listed-set (λ n. getD words n 0) (λ n. wordOf 64 (λ u. new (record { net = n; time = u }))) 256 g r l own other
     where
       own : wordOf 64 (λ u. new (record { net = g; time = u })) ≡ r
       own =
           sym (is-word 64 (λ u. new (record { net = g; time = u })) r small
-          (λ u h. put u h ∙ ap (λ x. cond (eqb u t) x (bit (getD words g 0) u)) made-is
-          ∙ ap (cond (eqb u t) (fnIn types k (map (varsOf words) (readsIn counts places sets k)))) (sym (var-net words g u l))
-          ∙ ap (λ q. cond q (fnIn types k (map (varsOf words) (readsIn counts places sets k))) (varsOf words (record { net = g; time = u }))) (sym (same-net g u t))))
+          (λ u h. put u h ∙ ap (λ x. cond (eqb u t) x (bit (getD words g 0) u)) (gives ∙ sym value-is)
+          ∙ ap (cond (eqb u t) value) (sym (var-net words g u l))
+          ∙ ap (λ q. cond q value (varsOf words (record { net = g; time = u }))) (sym (same-net g u t))))
 
       other : (j : ℕ) → j < 256 → ¬ (j ≡ g) → wordOf 64 (λ u. new (record { net = j; time = u })) ≡ getD words j 0
       other j h q =
           sym (is-word 64 (λ u. new (record { net = j; time = u })) (getD words j 0) (are .low j)
-          (λ u b. sym (var-net words j u h) ∙ ap (λ e. cond e (fnIn types k (map (varsOf words) (readsIn counts places sets k))) (varsOf words (record { net = j; time = u }))) (sym (other-net j g u t q))))
+          (λ u b. sym (var-net words j u h) ∙ ap (λ e. cond e value (varsOf words (record { net = j; time = u }))) (sym (other-net j g u t q))))
 
 -- what a step leaves is 256 words again
 pub step-words : (types counts places sets words : List ℕ) (k : Step) → Words (stepIn types counts places sets words k)

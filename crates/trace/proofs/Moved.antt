@@ -19,7 +19,7 @@ use Rattle.card.specs.declared.Session.{Session}
 use Rattle.card.proofs.Kept.{few, card-pins, card-wires, card-fitting}
 use Rattle.session.specs.Good.{Rested}
 use Rattle.trace.specs.Inner.Caused.{movedAt, Readable, Caused}
-use Rattle.history.proofs.Changes.{changed-cong}
+use Rattle.rule.proofs.Flags.{changed-cong}
 use Rattle.trace.proofs.Moves.{moved-net, moved-open}
 use Rattle.trace.proofs.FirstPins.{first-in}
 use Rattle.trace.proofs.Causes.{pinChanged, cause-exists}

@@ -29,7 +29,7 @@ use Rattle.card.proofs.Kept.{nets-are, few, card-pins}
 use Rattle.session.specs.Good.{Rested, Good}
 use Rattle.trace.specs.Traced.{Traced, changedThen, wayBack, traceOf}
 use Rattle.trace.specs.Inner.Caused.{movedAt}
-use Rattle.trace.proofs.Ways.{way-length, way-first, way-next, way-on}
+use Rattle.rule.proofs.Ways.{way-length, way-first, way-next, way-on}
 use Rattle.trace.proofs.Causes.{pinChanged, Cause}
 use Rattle.trace.proofs.WaysBack.{entry, Changed, entry-changed, entry-cause, last-changed, last-is-input}
 use Rattle.history.proofs.Ran.{holds, ruleValue}

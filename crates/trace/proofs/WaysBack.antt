@@ -12,7 +12,7 @@ use Rattle.rule.specs.Net.{Net, input, netAt, pins, Named}
 use Rattle.rule.specs.Rule.{value, AtRest}
 use Rattle.rule.specs.Flag.{changedAt}
 use Rattle.rule.specs.Cause.{firstPin, causes}
-use Rattle.trace.proofs.Ways.{way-next}
+use Rattle.rule.proofs.Ways.{way-first, way-next, way-later}
 use Rattle.trace.proofs.Causes.{pinChanged, Cause, first-cause, first-is-input}
 
 -- entry i of the way back from net n at time t
@@ -35,13 +35,12 @@ module _ (c : List Net) (before new : ℕ → Bool) (calm : AtRest c before) (na
       record { listed = ⊎-elim (λ l. l) (λ q. absurd (k .net q)) (named n _ (k .pin)); changed = k .changed }
 
   pub entry-changed : (n t i : ℕ) → i ≤ t → Changed c before new n t → Changed c before new (entry c before new n t i) (t - i)
-  unfolding causes
-  entry-changed n zero zero l h = h
+  entry-changed n t zero l h = rw (sub-zero, way-first c (pinChanged before v) n t 0) h
   entry-changed n zero (suc i) l h = absurd (omega arith)
-  entry-changed n (suc t) zero l h = rw sub-zero h
   entry-changed n (suc t) (suc i) l h =
       let e : t - i ≡ suc t - suc i = omega arith in
-      subst (Changed c before new (entry c before new n (suc t) (suc i))) e (entry-changed (firstPin (λ p. pinChanged before v p t) (pins c n)) t i (omega arith) (cause-changed n t h))
+      rw (way-later c (pinChanged before v) n t i 0)
+      (subst (Changed c before new _) e (entry-changed (firstPin (λ p. pinChanged before v p t) (pins c n)) t i (omega arith) (cause-changed n t h)))
 
   -- consecutive entries
   pub entry-cause : (n t i : ℕ) → i < t → Changed c before new n t → Cause c before new (entry c before new n t i) (t - suc i) (entry c before new n t (suc i))

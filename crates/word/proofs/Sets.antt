@@ -3,14 +3,16 @@ use mathlib.Core.Path.{_≡_, refl, sym, ap, ap₂, _∙_, subst}
 use mathlib.Core.Bool.{Bool, true, false, cond, _&&_, and-false, false≢true}
 use mathlib.Core.Logic.{_⊎_, inl, inr, ⊎-elim}
 use Prim.Native.Nat.{ℕ, zero, suc, _+_, _≤_, _<_}
-use native.Mathlib.Nat.{le-of-eq, le-suc-iff, eq-or-lt-of-le, lt-suc-self, le-step, not-suc-le-zero, le-of-suc-le-suc}
+use native.Mathlib.Nat.{add-zero, add-suc, le-of-eq, le-suc-iff, eq-or-lt-of-le, lt-suc-self, le-step, not-suc-le-zero, le-of-suc-le-suc}
 use native.Mathlib.Numerals.{add-one}
 use native.Mathlib.Omega.{arith}
 use native.Mathlib.Decide.{decLt}
 use lib.Arith.{le-zero}
 use lib.Dec.{leb, ltb}
 use borrow.Author.Tests.{le-leb, lt-leb, leb-true, lt-ltb, le-ltb}
+use Rattle.lists.specs.Entries.{from, sum}
 use Rattle.lists.proofs.Bools.{and-both}
+use Rattle.lists.proofs.Joined.{sum-more}
 use Rattle.word.specs.Word.{val}
 use Rattle.word.specs.Times.{count, least, greatest, zeroIn}
 use Rattle.word.proofs.Words.{val-lt}
@@ -42,6 +44,30 @@ count-within f g (suc n) h = go (f n) refl (g n) refl (count-within f g n (λ t 
 pub count-more : (f : ℕ → Bool) (n a b : ℕ) → a ≡ count f n → b ≡ val (f n) → a + b ≡ count f (n + 1)
 unfolding count
 count-more f n a b e h = rw (add-one n) (omega arith)
+
+-- below 0 there is none, and of n + 1 numbers the last is n
+pub count-start : (f : ℕ → Bool) → count f 0 ≡ 0
+unfolding count
+count-start f = refl
+
+pub count-last : (f : ℕ → Bool) (n : ℕ) → count f (suc n) ≡ val (f n) + count f n
+unfolding count
+count-last f n = refl
+
+-- of a set that has no 0, number by number
+pub count-sum : (f : ℕ → Bool) (d : ℕ) → f 0 ≡ false → sum (λ t. val (f t)) (from 1 d) ≡ count f (suc d)
+unfolding count
+count-sum f zero e = rw e
+count-sum f (suc d) e =
+    let h = count-sum f d e in
+    let x : 1 + d ≡ suc d = omega arith in
+    sum-more (λ t. val (f t)) 1 d ∙ rw x (omega arith)
+
+-- of a set that has nothing from d on
+pub count-ends : (f : ℕ → Bool) (d k : ℕ) → ((t : ℕ) → d ≤ t → f t ≡ false) → count f (d + k) ≡ count f d
+unfolding count
+count-ends f d zero h = rw (add-zero d)
+count-ends f d (suc k) h = rw (add-suc d k, h (d + k) (omega arith)) (omega (arith, count-ends f d k h))
 
 -- where none is counted none is in the set, and else some is
 pub count-none : (f : ℕ → Bool) (n : ℕ) → count f n ≡ 0 → (i : ℕ) → i < n → f i ≡ false

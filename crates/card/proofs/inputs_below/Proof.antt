@@ -1,12 +1,12 @@
 -- `card::inputs_below` meets its contract: after g nets the count is that of the inputs below g. Assumes nothing.
-use mathlib.Core.Path.{_≡_}
+use mathlib.Core.Path.{_≡_, sym}
 use Prim.Native.Nat.{ℕ, _-_, _≤_}
 use native.Mathlib.Omega.{arith}
 use lib.Dec.{eqb}
 use lib.ListN.{getD}
 use borrow.Author.Needs.{needs}
 use Rattle.word.specs.Times.{count}
-use Rattle.word.proofs.Sets.{count-le, count-more}
+use Rattle.word.proofs.Sets.{count-start, count-le, count-more}
 use Rattle.card.proofs.inputs_below.Statement.{statement}
 use Rattle.card.proofs.inputs_below.Tie as tie
 
@@ -17,8 +17,7 @@ abbrev μ-loop : tie.MeasureT-loop
 μ-loop kinds n inputs₀ g₀ inputs g = n - g
 
 loop-holds : tie.Need-loop-holds Inv-loop μ-loop
-unfolding count
-loop-holds c = (omega arith, mathlib.Core.Path.refl)
+loop-holds c = (omega arith, sym (count-start (λ m. eqb (getD (c .args .kinds .now) m 0) 1)))
 
 element-copy-out-one-if-input : tie.Need-element-copy-out-one-if-input Inv-loop μ-loop
 element-copy-out-one-if-input c = search needs

@@ -19,6 +19,10 @@ Inv-loop words counts places n ty rule g count «open» known₀ j₀ known j = 
 abbrev μ-loop : tie.MeasureT-loop
 μ-loop words counts places n ty rule g count «open» known₀ j₀ known j = 8 - j
 
+-- the function's entry, from the loop
+abbrev at-start : tie.At-loop Inv-loop μ-loop → tie.Start Inv-loop μ-loop
+at-start c = c .before .before .before .before .before .before
+
 element-copy-out-wide : tie.Need-element-copy-out-wide Inv-loop μ-loop
 element-copy-out-wide c = search needs
 
@@ -53,9 +57,10 @@ loop-holds c =
 
 returns : tie.Need-returns Inv-loop μ-loop
 returns c t =
-    let s = c .before .before .before .before .before .before .before .before in
-    let l = c .before .before .loop in
-    let e = c .before .before .before .before .before .before .wide .ensures in
+    let at = c .before .before in
+    let s = at-start at in
+    let l = at .loop in
+    let e = at .before .before .before .before .wide .ensures in
     gather-all (pinBit (s .args .words .now) t) (s .args .places .now) (s .args .g) (s .args .ty) (s .args .counts .now) (l .j) (bit (l .known) t) (omega arith) (l .inv .2 t)
 
 mul-at-pin-3 : tie.Need-mul-at-pin-3 Inv-loop μ-loop
@@ -72,12 +77,13 @@ element-copy-out-at-pin-2 c = search needs
 
 at-pin-requires-2 : tie.Need-at-pin-requires-2 Inv-loop μ-loop
 at-pin-requires-2 c κs =
-    let s = c .before .before .before .before .before .before .before .before .before in
-    let e = c .before .before .before .before .before .before .before .wide .ensures in
-    pin-fitting (s .args .counts .now) (s .args .places .now) (s .args .n) (s .args .g) (c .before .before .before .loop .j) (s .pre .0) (s .pre .1 .0) (omega arith)
+    let at = c .before .before .before in
+    let s = at-start at in
+    let e = at .before .before .before .before .wide .ensures in
+    pin-fitting (s .args .counts .now) (s .args .places .now) (s .args .n) (s .args .g) (at .loop .j) (s .pre .0) (s .pre .1 .0) (omega arith)
 
 with-word-requires : tie.Need-with-word-requires Inv-loop μ-loop
-with-word-requires c κs = c .before .before .before .before .before .before .before .before .before .before .pre .1 .1 .2
+with-word-requires c κs = at-start (c .before .before .before .before) .pre .1 .1 .2
 
 add-j : tie.Need-add-j Inv-loop μ-loop
 add-j c = search needs
@@ -87,10 +93,11 @@ loop-less c = search needs
 
 loop-again : tie.Need-loop-again Inv-loop μ-loop
 loop-again c =
-    let a = c .before .before .before .before .before .before .before .before .before .before .before .args in
-    let l = c .before .before .before .before .before .loop in
+    let at = c .before .before .before .before .before in
+    let a = at-start at .args in
+    let l = at .loop in
     let p = getD (a .places .now) (a .g * 8 + l .j) 0 in
-    let word = c .before .at-pin2 .ensures ∙ ap (λ loose. atPin loose (λ m. getD (a .words .now) m 0) p) (c .before .before .before .before .before .before .before .before .open-word .ensures) in (
+    let word = c .before .at-pin2 .ensures ∙ ap (λ loose. atPin loose (λ m. getD (a .words .now) m 0) p) (at .before .before .before .open-word .ensures) in (
       omega arith,
       omega arith,
       λ t. gather-more (pinBit (a .words .now) t) (a .places .now) (a .g) (a .ty) (l .j) _ _ _ (l .inv .2 t) (ap (λ w. bit w t) word) (c .with-word .ensures t),
@@ -98,9 +105,10 @@ loop-again c =
 
 returns-2 : tie.Need-returns-2 Inv-loop μ-loop
 returns-2 c t =
-    let s = c .before .before .before .before .before .before .before in
-    let l = c .before .loop in
-    let e = c .before .before .before .before .before .wide .ensures in
+    let at = c .before in
+    let s = at-start at in
+    let l = at .loop in
+    let e = at .before .before .before .before .wide .ensures in
     gather-all (pinBit (s .args .words .now) t) (s .args .places .now) (s .args .g) (s .args .ty) (s .args .counts .now) (l .j) (bit (l .known) t) (omega arith) (l .inv .2 t)
 
 pub gather-spec : {M : Type 1} → statement M

@@ -7,8 +7,9 @@ use native.Mathlib.Omega.{arith}
 use borrow.Author.Needs.{needs}
 use Rattle.word.specs.Word.{bit, movedUp}
 use Rattle.word.proofs.Words.{val-lt}
-use Rattle.word.proofs.Sets.{count-le}
-use Rattle.rule.specs.Flag.{changedAt, changes}
+use Rattle.word.proofs.Sets.{count-start, count-le}
+use Rattle.rule.specs.Flag.{changedAt}
+use Rattle.rule.proofs.Flags.{changes-counted}
 use Rattle.history.proofs.Changes.{one-later, changes-more}
 use Rattle.history.proofs.changes_of.Statement.{statement}
 use Rattle.history.proofs.changes_of.Tie as tie
@@ -20,8 +21,7 @@ abbrev μ-loop : tie.MeasureT-loop
 μ-loop word before w last₀ count₀ t₀ last count t = 64 - t
 
 loop-holds : tie.Need-loop-holds Inv-loop μ-loop
-unfolding Rattle.word.specs.Times.count
-loop-holds c = (omega arith, refl, refl)
+loop-holds c = (omega arith, refl, sym (count-start (changedAt (c .args .before) (bit (c .args .word)))))
 
 has-requires : tie.Need-has-requires Inv-loop μ-loop
 has-requires c κs = search needs
@@ -53,11 +53,10 @@ loop-again c =
     )
 
 returns : tie.Need-returns Inv-loop μ-loop
-unfolding changes
 returns c =
     let s = c .before .before in
     let e : c .before .loop .t ≡ 64 = omega arith in
-    rw e at (c .before .loop .inv .2)
+    (rw e at (c .before .loop .inv .2)) ∙ sym (changes-counted (s .args .before) (bit (s .args .word)))
 
 pub changes-of-spec : {M : Type 1} → statement M
 changes-of-spec =

@@ -3,7 +3,7 @@ use mathlib.Core.Path.{sym, ap, _∙_}
 use mathlib.Core.Bool.{Bool·beq}
 use borrow.Author.Needs.{needs}
 use Rattle.word.specs.Word.{bit}
-use Rattle.history.proofs.Flags.{none-is, one-is, many-is}
+use Rattle.rule.proofs.Flags.{none-is, one-is, many-is}
 use Rattle.history.proofs.flag_of.Statement.{statement}
 use Rattle.history.proofs.flag_of.Tie as tie
 

@@ -24,6 +24,16 @@ ready c = not-false _ (c .before .before .before .if1 .left)
 narrow : (c : tie.Else4) → entry c .args .t1 .nets ≤ 256
 narrow c = let s = entry c in few (s .args .t1) (holds (s .args .t1) (s .pre) (ready c))
 
+-- from each slice that is filled, the one ahead of it, and from the first where the tests are passed
+abbrev at-tested : tie.After-put-words → tie.Else4
+at-tested c = c .before .before .before .before
+
+abbrev at-words : tie.After-put-befores → tie.After-put-words
+at-words c = c .before .before .before .before .before .before
+
+abbrev at-befores : tie.After-put-flags → tie.After-put-befores
+at-befores c = c .before .before .before .before .before .before .before
+
 returns : tie.Need-returns
 returns c = let a = c .before .before .before .before .args in sym (gives-12 (a .t1) (a .words .now) (a .befores .now) (a .flags .now) (not-true _ (c .if1 .taken)))
 
@@ -40,10 +50,12 @@ put-words-requires : tie.Need-put-words-requires
 put-words-requires c κs = let e = c .before .before .before in (omega (arith, narrow e), omega (arith, e .before .before .if2 .left))
 
 put-befores-requires : tie.Need-put-befores-requires
-put-befores-requires c κs = let e = c .before .before .before .before .before .before .before .before .before in (omega (arith, narrow e), omega (arith, e .before .if3 .left))
+put-befores-requires c κs = let e = at-tested (c .before .before .before .before .before) in (omega (arith, narrow e), omega (arith, e .before .if3 .left))
 
 put-flags-requires : tie.Need-put-flags-requires
-put-flags-requires c κs = let e = c .before .before .before .before .before .before .before .before .before .before .before .before .before .before .before .before in (omega (arith, narrow e), omega (arith, e .if4 .left))
+put-flags-requires c κs =
+    let e = at-tested (at-words (c .before .before .before .before .before .before)) in
+    (omega (arith, narrow e), omega (arith, e .if4 .left))
 
 same-length : tie.Need-same-length
 same-length c = search needs
@@ -56,10 +68,14 @@ same-length-3 c = search needs
 
 returns-5 : tie.Need-returns-5
 returns-5 c =
-    let e = c .before .before .before .before .before .before .before .before .before .before .before .before .before .before .before .before .before .before .before in
+    let flags = c .before .before in
+    let befores = at-befores flags in
+    let words = at-words befores in
+    let e = at-tested words in
     let a = entry e .args in
-    told (a .t1) (a .words .now) (a .befores .now) (a .flags .now) (ready e) (record { for-words = e .before .before .if2 .left; for-befores = e .before .if3 .left; for-flags = e .if4 .left }) _ _ _
-    (c .before .before .before .before .before .before .before .before .before .before .before .before .before .before .before .put-words .ensures) (c .before .before .before .before .before .before .before .before .before .put-befores .ensures) (c .before .before .put-flags .ensures)
+    told (a .t1) (a .words .now) (a .befores .now) (a .flags .now) (ready e)
+    (record { for-words = e .before .before .if2 .left; for-befores = e .before .if3 .left; for-flags = e .if4 .left }) _ _ _
+    (words .put-words .ensures) (befores .put-befores .ensures) (flags .put-flags .ensures)
 
 pub history-spec : {M : Type 1} → statement M
 history-spec =

@@ -18,8 +18,8 @@ rested : (c : tie.Start) → Rested (c .args .t1)
 rested c = c .pre .0 .rest (c .pre .1 .0) .1
 
 -- the places of the function from which what holds is taken
-abbrev at-tops : tie.After-with-words → tie.After-tops
-at-tops c = c .before .before .before .before .before .before .before .before .before .before
+abbrev at-tops : tie.After-advance-arg5 → tie.After-tops
+at-tops c = c .before .before .before .before .before .before .before .before
 
 abbrev at-start : tie.After-tops → tie.Start
 at-start c = c .before .before .before .before
@@ -29,7 +29,7 @@ tops-requires c κs = search needs
 
 advance-requires : tie.Need-advance-requires
 advance-requires c κs =
-    let a = c .before .before .before .before .before .before .before .before .before .before .before .before in
+    let a = at-start (at-tops c) in
     let s = a .args .t1 in
     let fed = feeds-fit s (card a) (a .args .v .now) (a .pre .1 .1) in
     (card-wires s (card a), (card-fitting s (card a), (gates-fit s (card a), (gates-once s (card a), (fed .0, fed .1, words-long s (card a) (rested a))))))
@@ -39,7 +39,7 @@ with-words-requires c κs = search needs
 
 returns : tie.Need-returns
 returns c =
-    let t = at-tops c in
+    let t = at-tops (c .before .before) in
     let a = at-start t in
     c .with-words .ensures
     ∙ fields-move (a .args .t1) (card a) (rested a) (a .args .v .now) (a .pre .1 .1) (t .tops .result) _ (t .tops .ensures) (c .before .advance .ensures)

@@ -19,20 +19,33 @@ Inv-loop counts places sets n nets times order done₀ i₀ done i =
 abbrev μ-loop : tie.MeasureT-loop
 μ-loop counts places sets n nets times order done₀ i₀ done i = length order - i
 
+-- the loop and the function's entry, from where an entry of the order is read; and that place, from where the entry's time is read
+abbrev at-loop : tie.After-wide16 Inv-loop μ-loop → tie.At-loop Inv-loop μ-loop
+at-loop c = c .before .before .before
+
+abbrev at-start : tie.After-wide16 Inv-loop μ-loop → tie.Start Inv-loop μ-loop
+at-start c = at-loop c .before .before
+
+abbrev at-entry : tie.After-narrow Inv-loop μ-loop → tie.After-wide16 Inv-loop μ-loop
+at-entry c = c .before .before .before .before
+
 -- the entry that is reached
-entry : (c : tie.After-wide16 Inv-loop μ-loop) → StepEntry (c .before .before .before .before .before .args .nets .now) (c .before .before .before .before .before .args .times .now) (c .wide16 .result)
+entry : (c : tie.After-wide16 Inv-loop μ-loop) → StepEntry (at-start c .args .nets .now) (at-start c .args .times .now) (c .wide16 .result)
 entry c =
-    let s = c .before .before .before .before .before in
-    subst (StepEntry (s .args .nets .now) (s .args .times .now)) (sym (c .wide16 .ensures)) (s .pre .1 .1 (c .before .before .before .loop .i) (c .before .before .loop-test .taken))
+    let s = at-start c in
+    subst (StepEntry (s .args .nets .now) (s .args .times .now)) (sym (c .wide16 .ensures))
+    (s .pre .1 .1 (at-loop c .loop .i) (c .before .before .loop-test .taken))
 
-net-is : (c : tie.After-narrow Inv-loop μ-loop) → c .before .before .wide162 .result ≡ getD (c .before .before .before .before .before .before .before .before .before .args .nets .now) (getD (c .before .before .before .before .before .before .before .before .before .args .order .now) (c .before .before .before .before .before .before .before .loop .i) 0) 0
-net-is c = c .before .before .wide162 .ensures ∙ ap (λ e. getD (c .before .before .before .before .before .before .before .before .before .args .nets .now) e 0) (c .before .before .before .before .wide16 .ensures)
+net-is : (c : tie.After-narrow Inv-loop μ-loop) → let d = at-entry c in
+    c .before .before .wide162 .result ≡ getD (at-start d .args .nets .now) (getD (at-start d .args .order .now) (at-loop d .loop .i) 0) 0
+net-is c = let d = at-entry c in c .before .before .wide162 .ensures ∙ ap (λ e. getD (at-start d .args .nets .now) e 0) (d .wide16 .ensures)
 
-time-is : (c : tie.After-narrow Inv-loop μ-loop) → c .narrow .result ≡ getD (c .before .before .before .before .before .before .before .before .before .args .times .now) (getD (c .before .before .before .before .before .before .before .before .before .args .order .now) (c .before .before .before .before .before .before .before .loop .i) 0) 0
-time-is c = c .narrow .ensures ∙ ap (λ e. getD (c .before .before .before .before .before .before .before .before .before .args .times .now) e 0) (c .before .before .before .before .wide16 .ensures)
+time-is : (c : tie.After-narrow Inv-loop μ-loop) → let d = at-entry c in
+    c .narrow .result ≡ getD (at-start d .args .times .now) (getD (at-start d .args .order .now) (at-loop d .loop .i) 0) 0
+time-is c = let d = at-entry c in c .narrow .ensures ∙ ap (λ e. getD (at-start d .args .times .now) e 0) (d .wide16 .ensures)
 
 placed : (c : tie.Else1 Inv-loop μ-loop) → c .before .before .before .before .before .wide162 .result < 256
-placed c = let g = c .before .before .before .before .before .wide162 .ensures in omega (arith, entry (c .before .before .before .before .before .before .before) .net)
+placed c = let g = c .before .before .before .before .before .wide162 .ensures in omega (arith, entry (at-entry (c .before .before .before)) .net)
 
 loop-holds : tie.Need-loop-holds Inv-loop μ-loop
 loop-holds c = (omega arith, refl)
@@ -63,17 +76,18 @@ narrow-requires c κs = search needs
 
 reads-done-requires : tie.Need-reads-done-requires Inv-loop μ-loop
 reads-done-requires c κs =
-    let s = c .before .before .before .before .before .before .before .before .before .before in
-    let e = entry (c .before .before .before .before .before) in
+    let d = at-entry (c .before) in
+    let s = at-start d in
+    let e = entry d in
     let g = c .before .before .before .wide162 .ensures in
     let t = c .before .narrow .ensures in
     (s .pre .0, (s .pre .1 .0, (omega (arith, e .net), omega (arith, e .time .late))))
 
 returns : tie.Need-returns Inv-loop μ-loop
 returns c =
-    let a = c .before .before .before .before .before .before .before .before .before .before .before .before .args in
-    let l = c .before .before .before .before .before .before .before .before .before .before .loop in
     let at = c .before .before .before in
+    let a = at-start (at-entry at) .args in
+    let l = at-loop (at-entry at) .loop in
     sym (l .inv .1
     ∙ ready-stop (a .counts .now) (a .places .now) (a .sets .now) (a .nets .now) (a .times .now) (a .order .now) (l .done) (l .i) (at .before .before .wide162 .result) (at .narrow .result) (omega arith) (net-is at) (time-is at)
     (sym (c .before .reads-done .ensures) ∙ not-true _ (c .if1 .taken)))
@@ -85,7 +99,7 @@ array-read-put : tie.Need-array-read-put Inv-loop μ-loop
 array-read-put c = placed c
 
 put-requires : tie.Need-put-requires Inv-loop μ-loop
-put-requires c κs = let t = c .before .before .before .narrow .ensures in omega (arith, entry (c .before .before .before .before .before .before .before) .time .low)
+put-requires c κs = let t = c .before .before .before .narrow .ensures in omega (arith, entry (at-entry (c .before .before .before)) .time .low)
 
 mul-done : tie.Need-mul-done Inv-loop μ-loop
 mul-done c = let h = placed (c .before) in search needs
@@ -101,9 +115,9 @@ loop-less c = search needs
 
 loop-again : tie.Need-loop-again Inv-loop μ-loop
 loop-again c =
-    let a = c .before .before .before .before .before .before .before .before .before .before .before .before .before .args in
-    let l = c .before .before .before .before .before .before .before .before .before .before .before .loop in
-    let at = c .before .before .before .before in (
+    let at = c .before .before .before .before in
+    let a = at-start (at-entry at) .args in
+    let l = at-loop (at-entry at) .loop in (
       omega arith,
       l .inv .1
           ∙ ready-turn (a .counts .now) (a .places .now) (a .sets .now) (a .nets .now) (a .times .now) (a .order .now) (l .done) (l .i) (at .before .before .wide162 .result) (at .narrow .result) (omega arith) (net-is at) (time-is at)

@@ -18,6 +18,10 @@ Inv-loop vars counts places sets n ty rule g t count loose known₀ j₀ known j
 abbrev μ-loop : tie.MeasureT-loop
 μ-loop vars counts places sets n ty rule g t count loose known₀ j₀ known j = count - j
 
+-- the function's entry, from the loop
+abbrev at-start : tie.At-loop Inv-loop μ-loop → tie.Start Inv-loop μ-loop
+at-start c = c .before .before .before .before .before .before
+
 element-copy-out-wide : tie.Need-element-copy-out-wide Inv-loop μ-loop
 element-copy-out-wide c = search needs
 
@@ -66,12 +70,14 @@ element-copy-out-read-at-2 c = search needs
 
 read-at-requires-2 : tie.Need-read-at-requires-2 Inv-loop μ-loop
 read-at-requires-2 c κs =
-    let s = c .before .before .before .before .before .before .before .before in
-    let e = c .before .before .before .before .before .before .wide .ensures in
-    (s .pre .1 .1 .3, pin-fitting (s .args .counts .now) (s .args .places .now) (s .args .n) (s .args .g) (c .before .before .loop .j) (s .pre .0) (s .pre .1 .0) (omega arith))
+    let at = c .before .before in
+    let s = at-start at in
+    let a = s .args in
+    let e = at .before .before .before .before .wide .ensures in
+    (s .pre .1 .1 .3, pin-fitting (a .counts .now) (a .places .now) (a .n) (a .g) (at .loop .j) (s .pre .0) (s .pre .1 .0) (omega arith))
 
 with-bit-requires : tie.Need-with-bit-requires Inv-loop μ-loop
-with-bit-requires c κs = c .before .before .before .before .before .before .before .before .before .pre .1 .1 .2
+with-bit-requires c κs = at-start (c .before .before .before) .pre .1 .1 .2
 
 add-j : tie.Need-add-j Inv-loop μ-loop
 add-j c = search needs
@@ -81,10 +87,11 @@ loop-less c = search needs
 
 loop-again : tie.Need-loop-again Inv-loop μ-loop
 loop-again c =
-    let a = c .before .before .before .before .before .before .before .before .before .before .args in
-    let l = c .before .before .before .before .loop in
+    let at = c .before .before .before .before in
+    let a = at-start at .args in
+    let l = at .loop in
     let read = readIn (a .sets .now) (a .t) (getD (a .places .now) (a .g * 8 + l .j) 0) in
-    let value = c .before .read-at2 .ensures ∙ ap (λ loose. heldIn loose (a .vars .now) read) (c .before .before .before .before .before .before .before .open-value .ensures) in (
+    let value = c .before .read-at2 .ensures ∙ ap (λ loose. heldIn loose (a .vars .now) read) (at .before .before .before .open-value .ensures) in (
       omega arith,
       omega arith,
       gather-more (pinValue (a .vars .now) (a .sets .now) (a .t)) (a .places .now) (a .g) (a .ty) (l .j) _ _ _ (l .inv .2) value (c .with-bit .ensures),
@@ -92,9 +99,10 @@ loop-again c =
 
 returns : tie.Need-returns Inv-loop μ-loop
 returns c =
-    let a = c .before .before .before .before .before .before .before .args in
-    let w = c .before .before .before .before .before .wide .ensures in
-    let l = c .before .loop in
+    let at = c .before in
+    let a = at-start at .args in
+    let w = at .before .before .before .before .wide .ensures in
+    let l = at .loop in
     gather-all (pinValue (a .vars .now) (a .sets .now) (a .t)) (a .places .now) (a .g) (a .ty) (a .counts .now) (l .j) (l .known) (omega arith) (l .inv .2)
 
 pub gather-spec : {M : Type 1} → statement M

@@ -7,7 +7,7 @@ use native.Mathlib.Omega.{arith}
 use lib.ListN.{getD}
 use borrow.Author.Needs.{needs}
 use Rattle.lists.proofs.Listed.{in-listed}
-use Rattle.rule.specs.Net.{openPin}
+use Rattle.rule.proofs.Nets.{open-is}
 use Rattle.trace.specs.Inner.Caused.{movedAt}
 use Rattle.trace.proofs.FirstPins.{none-more, first-none, first-here}
 use Rattle.trace.proofs.first_pin.Statement.{statement}
@@ -75,12 +75,12 @@ loop-again c =
     )
 
 returns-2 : tie.Need-returns-2 Inv-loop μ-loop
-unfolding openPin
 returns-2 c =
     let s = c .before .before .before .before in
     let e = c .before .before .wide .ensures in
-    sym (first-none (λ p. movedAt (s .args .before .now) (s .args .words .now) p (s .args .t)) (λ i. getD (s .args .places .now) (s .args .g * 8 + i) 0) (getD (s .args .counts .now) (s .args .g) 0)
-    (λ i l. c .before .loop .inv .2 i (omega arith)))
+    sym open-is
+    ∙ sym (first-none (λ p. movedAt (s .args .before .now) (s .args .words .now) p (s .args .t)) (λ i. getD (s .args .places .now) (s .args .g * 8 + i) 0)
+    (getD (s .args .counts .now) (s .args .g) 0) (λ i l. c .before .loop .inv .2 i (omega arith)))
 
 pub first-pin-spec : {M : Type 1} → statement M
 first-pin-spec =

@@ -33,6 +33,10 @@ asked c = c .before .before .before .before .before
 changed : (c : tie.Else4) → let a = entry (asked c) .args in movedAt (a .t1 .before) (a .t1 .words) (a .n) (a .t) ≡ true
 changed c = sym (c .before .moved-at .ensures) ∙ not-false _ (c .if4 .left)
 
+-- and, past the last one, there is room
+abbrev roomy : tie.After-net-cause-arg5 → tie.Else5
+roomy c = c .before .before .before .before .before .before
+
 returns : tie.Need-returns
 returns c = let a = c .before .before .args in sym (gives-12 (a .t1) (a .n) (a .t) (a .room .now) (not-true _ (c .if1 .taken)))
 
@@ -67,11 +71,12 @@ returns-5 c =
 
 net-cause-requires : tie.Need-net-cause-requires
 net-cause-requires c κs =
-    let d = c .before .before .before .before .before .before .before in
+    let r = roomy c in
+    let d = r .before in
     let e = asked d in
     let s = entry e in (
       session-caused (s .args .t1) (holds (s .args .t1) (s .pre) (ready e)) (s .pre .rest (ready e) .1),
-      (placed e, omega (arith, e .if3 .left), changed d, omega (arith, c .before .before .before .before .before .before .if5 .left)),
+      (placed e, omega (arith, e .if3 .left), changed d, omega (arith, r .if5 .left)),
     )
 
 same-length : tie.Need-same-length
@@ -79,12 +84,13 @@ same-length c = search needs
 
 returns-6 : tie.Need-returns-6
 returns-6 c =
-    let d = c .before .before .before .before .before .before .before .before .before .before in
+    let r = roomy (c .before .before .before) in
+    let d = r .before in
     let e = asked d in
     let s = entry e in
     let a = s .args in
     traced (a .t1) (a .n) (a .t) (a .room .now) (ready e) (omega (arith, e .before .if2 .left)) (changed-then (a .t1) (a .n) (a .t) (omega (arith, e .if3 .left)) true (changed d))
-    (omega (arith, c .before .before .before .before .before .before .before .before .before .if5 .left)) _ (c .before .before .net-cause .ensures (cardOf (a .t1)) (card-pins (a .t1) (holds (a .t1) (s .pre) (ready e))))
+    (omega (arith, r .if5 .left)) _ (c .before .before .net-cause .ensures (cardOf (a .t1)) (card-pins (a .t1) (holds (a .t1) (s .pre) (ready e))))
 
 pub trace-spec : {M : Type 1} → statement M
 trace-spec =
