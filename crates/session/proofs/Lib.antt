@@ -8,4 +8,5 @@ pub mod Refusals
 pub mod Kept
 pub mod Rules
 pub mod Sequences
+pub mod Same
 pub mod Witness
