@@ -1,4 +1,5 @@
 pub mod Heads
+pub mod TwoBytes
 pub mod Found
 pub mod Meant
 pub mod Scans
