@@ -9,4 +9,5 @@ pub mod Kept
 pub mod Rules
 pub mod Sequences
 pub mod Same
+pub mod Restarts
 pub mod Witness
