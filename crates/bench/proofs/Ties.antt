@@ -31,7 +31,7 @@ use Rattle.card.specs.declared.Session.{Session}
 use Rattle.card.specs.Session.{cardOf}
 use Rattle.card.specs.Held.{HasCard}
 use Rattle.card.proofs.Kept.{card-fits}
-use Rattle.step_vars.proofs.Stores.{held-net, held-open}
+use Rattle.step_vars.proofs.Holding.{held-net, held-open}
 use Rattle.step_orders.specs.Orders.{entriesFit, stepsOf, orderReady, orderJudged}
 use Rattle.step_orders.specs.Inner.Ready.{orderSteps, doneOf, markIn, readyIn, judgedIn}
 use Rattle.step_orders.proofs.Judging.{entries-of}

@@ -29,7 +29,7 @@ use Rattle.session.specs.Moves.{ends}
 use Rattle.session.proofs.States.{past-zero}
 use Rattle.session.proofs.Moving.{constant-ends}
 use Rattle.step_vars.specs.Variables.{varsOf}
-use Rattle.step_vars.proofs.Stores.{held-net, held-open}
+use Rattle.step_vars.proofs.Holding.{held-net, held-open}
 use Rattle.step_run.specs.Vector.{startVars}
 
 module _ (s : Session) (h : HasCard s) (r : Rested s) where

@@ -33,7 +33,8 @@ use Rattle.card.specs.Held.{HasCard}
 use Rattle.card.proofs.Kept.{card-fits, card-pins, card-sets, past-sets}
 use Rattle.session.proofs.Held.{gate-type}
 use Rattle.step_vars.specs.Variables.{varsOf, wordsOf, readIn, readsIn, fnIn, stepIn}
-use Rattle.step_vars.proofs.Stores.{var-net, held-open}
+use Rattle.step_vars.proofs.Stores.{var-net}
+use Rattle.step_vars.proofs.Holding.{held-open}
 use Rattle.step_list.proofs.Cards.{step-low}
 use Rattle.step_run.specs.Runs.{Ran, ranFrom}
 

@@ -10,10 +10,10 @@ use borrow.Author.Tests.{eq-eqb, ne-eqb}
 use Rattle.lists.proofs.Listed.{length-listed, listed-all, is-listed, listed-set}
 use Rattle.word.specs.Word.{bit, wordOf}
 use Rattle.word.proofs.Words.{word-lt, is-word}
-use Rattle.rule.specs.Net.{openPin, openValue, atPin}
+use Rattle.rule.specs.Net.{openValue}
 use Rattle.rule.specs.Run.{made, step}
 use Rattle.rule.specs.Steps.{Step, sameStep}
-use Rattle.rule.proofs.Nets.{at-open, at-net, not-open}
+use Rattle.rule.proofs.Nets.{at-net, not-open}
 use Rattle.step_vars.specs.Variables.{heldIn, varsOf, wordsOf, readsIn, fnIn, stepIn}
 use Rattle.step_vars.specs.Inner.Variables.{Words}
 
@@ -64,12 +64,3 @@ step-words types counts places sets words k = record {
   size = length-listed _ 256;
   low = λ n. listed-all (λ w. w < 2 ^ 64) _ 256 n 0 (word-lt 64 _) (lit< tt);
 }
-
--- what the words hold for a variable of a net is a bit of its word, and for one of an open pin what is given for it
-pub held-net : (loose : Bool) (words : List ℕ) (j : Step) → ¬ (j .net ≡ openPin) → heldIn loose words j ≡ bit (getD words (j .net) 0) (j .time)
-unfolding heldIn
-held-net loose words j e = at-net loose (λ n. bit (getD words n 0) (j .time)) (j .net) e
-
-pub held-open : (loose : Bool) (words : List ℕ) (j : Step) → j .net ≡ openPin → heldIn loose words j ≡ loose
-unfolding heldIn
-held-open loose words j e = ap (atPin loose (λ n. bit (getD words n 0) (j .time))) e ∙ at-open loose (λ n. bit (getD words n 0) (j .time))
