@@ -2,11 +2,11 @@
 use mathlib.Core.Path.{_≡_, sym, ap, _∙_}
 use mathlib.Core.Bool.{Bool, true, cond}
 use mathlib.Core.List.{List}
-use Prim.Native.Nat.{ℕ, _≤_, _<_}
+use Prim.Native.Nat.{ℕ, _<_}
 use native.Mathlib.Omega.{arith}
 use native.Mathlib.Decide.{ℕ-discrete, decLt}
 use lib.Dec.{lit<}
-use lib.ListN.{length, getD}
+use lib.ListN.{getD}
 use borrow.Author.Tests.{eqb-true}
 use Rattle.lists.proofs.Listed.{listed-at, listed-past}
 use Rattle.word.specs.Word.{bit, wordOf}
@@ -35,9 +35,6 @@ use Rattle.step_run.specs.Vector.{startVars}
 module _ (s : Session) (h : HasCard s) (r : Rested s) where
   abbrev c : List Net
   c = cardOf s
-
-  few : length c ≤ 256
-  few = card-fits s h .fits .few
 
   module _ (new : ℕ → Bool) where
     -- a net's value at time 0 in terms of its kind
@@ -73,7 +70,7 @@ module _ (s : Session) (h : HasCard s) (r : Rested s) where
         go : Dec (n ≡ openPin) → Dec (n < 256) → varsOf words j ≡ value c (ends s) new n 0
         go (yes e) b = held-open openValue words j e ∙ sym (constant-is c (ends s) new n 0 openValue (ap (netAt c) e ∙ net-open c))
         go (no e) (yes b) = held-net openValue words j e ∙ start-bit n 0 b (lit< tt)
-        go (no e) (no b) = held-net openValue words j e ∙ ap (λ w. bit w 0) (past b) ∙ bit-none 0 ∙ sym (past-zero c (ends s) new n 0 (omega (arith, few)) e)
+        go (no e) (no b) = held-net openValue words j e ∙ ap (λ w. bit w 0) (past b) ∙ bit-none 0 ∙ sym (past-zero c (ends s) new n 0 (omega (arith, card-fits s h .fits .few)) e)
 
     -- "The variable for it takes the before value ahead of all steps."
     pub start-ahead : (k : Step) → ahead k ≡ true → varsOf (startVars s new) k ≡ value c (ends s) new (k .net) (k .time)
