@@ -7,6 +7,7 @@ pub mod Pushed
 pub mod Walk
 pub mod Spelled
 pub mod Again
+pub mod Sizes
 pub mod Faults
 pub mod Cards
 pub mod Fitted

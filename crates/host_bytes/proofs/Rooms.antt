@@ -221,7 +221,8 @@ module _ (engine : Engine) where
     two-older i l = rooms-older one k (lastRoom one) w one-long i l ∙ room-at one i l ∙ rooms-last b k (lastRoom b) u long i l
 
     two-else : Elsewhere two b
-    two-else i o p q = kept-at one k (lastRoom one) w one-long i o p (omega (arith, length-rooms b k (lastRoom b) u, q)) ∙ kept-at b k (lastRoom b) u long i o p q
+    two-else i o p q =
+        kept-at one k (lastRoom one) w one-long i o p (omega (arith, length-rooms b k (lastRoom b) u, q)) ∙ kept-at b k (lastRoom b) u long i o p q
 
   -- so of three vectors the first is forgotten
   pub kept-forgets : (b x u w : List ℕ) → sessionLength ≤ length b

@@ -59,7 +59,8 @@ module _ (engine : Engine) where
       → keptVector engine (keptVector engine (keptEach b vs n j) u) w ≡ keptVector engine (keptVector engine b u) w
   unfolding keptEach
   last-two b vs n long zero u w = refl
-  last-two b vs n long (suc j) u w = kept-forgets engine (keptEach b vs n j) (part vs (j * n) n) u w (omega (arith, length-each b vs n j, long)) ∙ last-two b vs n long j u w
+  last-two b vs n long (suc j) u w =
+      kept-forgets engine (keptEach b vs n j) (part vs (j * n) n) u w (omega (arith, length-each b vs n j, long)) ∙ last-two b vs n long j u w
 
   each-many : (b vs : List ℕ) (n j : ℕ) → sessionLength ≤ length b → keptEach b vs n j ≡ keptMany engine b vs n j
   unfolding keptMany keptEach

@@ -37,12 +37,14 @@ module _ (engine : Engine) (s : Session) (vs : List ℕ) (n : ℕ) (room : List 
           → getD (manyBy engine s vs n (suc k) room .words) (j * s .nets + m) 0 ≡ getD (manyBy engine s vs n (suc j) room .session .words) m 0
       go ih (yes b) =
           let ahead : j * s .nets + s .nets ≤ k * s .nets = turn-fits j k (s .nets) (k * s .nets) b (le-of-eq refl) in
-          area-out so-far (k * s .nets) (k * s .nets + s .nets) next (j * s .nets + m) (inl (omega (arith, ahead, u))) (omega (arith, ahead, u, now, long)) ∙ ih b
+          area-out so-far (k * s .nets) (k * s .nets + s .nets) next (j * s .nets + m) (inl (omega (arith, ahead, u))) (omega (arith, ahead, u, now, long))
+          ∙ ih b
       go ih (no b) =
           let q : k ≡ j = omega arith in
           let e : k * s .nets + m - k * s .nets ≡ m = omega arith in
           subst (λ i. getD (manyBy engine s vs n (suc k) room .words) (i * s .nets + m) 0 ≡ getD (manyBy engine s vs n (suc i) room .session .words) m 0) q
-          (area-in so-far (k * s .nets) (k * s .nets + s .nets) next (k * s .nets + m) (omega (arith, now, long)) (omega arith) (omega (arith, u)) ∙ ap (λ i. getD next i 0) e)
+          (area-in so-far (k * s .nets) (k * s .nets + s .nets) next (k * s .nets + m) (omega (arith, now, long)) (omega arith) (omega (arith, u))
+          ∙ ap (λ i. getD next i 0) e)
 
   -- the room past the words of all vectors stays
   pub run-past : (k i : ℕ) → k * s .nets ≤ i → getD (manyBy engine s vs n k room .words) i 0 ≡ getD room i 0

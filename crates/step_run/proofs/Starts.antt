@@ -70,7 +70,9 @@ module _ (s : Session) (h : HasCard s) (r : Rested s) where
         go : Dec (n ≡ openPin) → Dec (n < 256) → varsOf words j ≡ value c (ends s) new n 0
         go (yes e) b = held-open openValue words j e ∙ sym (constant-is c (ends s) new n 0 openValue (ap (netAt c) e ∙ net-open c))
         go (no e) (yes b) = held-net openValue words j e ∙ start-bit n 0 b (lit< tt)
-        go (no e) (no b) = held-net openValue words j e ∙ ap (λ w. bit w 0) (past b) ∙ bit-none 0 ∙ sym (past-zero c (ends s) new n 0 (omega (arith, card-fits s h .fits .few)) e)
+        go (no e) (no b) =
+            held-net openValue words j e ∙ ap (λ w. bit w 0) (past b) ∙ bit-none 0
+            ∙ sym (past-zero c (ends s) new n 0 (omega (arith, card-fits s h .fits .few)) e)
 
     -- "The variable for it takes the before value ahead of all steps."
     pub start-ahead : (k : Step) → ahead k ≡ true → varsOf (startVars s new) k ≡ value c (ends s) new (k .net) (k .time)

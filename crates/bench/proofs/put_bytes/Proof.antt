@@ -60,9 +60,10 @@ step-byte-requires c κs = search needs
 
 slice-write-room : tie.Need-slice-write-room Inv-loop μ-loop
 slice-write-room c =
-    let l = c .before .before .before .before .before .before .before .before in
-    let a = begun l .args in
-    omega (arith, filled-keeps (byteIn (a .vars .now) (a .nets .now) (a .times .now) (a .done .now)) (a .room .now) (l .loop .e) (l .loop .room) (l .loop .inv .1))
+    let head = c .before .before .before .before .before .before .before .before in
+    let l = head .loop in
+    let a = begun head .args in
+    omega (arith, filled-keeps (byteIn (a .vars .now) (a .nets .now) (a .times .now) (a .done .now)) (a .room .now) (l .e) (l .room) (l .inv .1))
 
 add-e : tie.Need-add-e Inv-loop μ-loop
 add-e c = search needs

@@ -46,7 +46,8 @@ keep-many-requires c κs =
     let judged = at-run ran in
     let start = at-judged judged in
     let a = start .args in
-    let asks = many-asks (a .s) (a .vectors .now) (length (a .words .now)) _ (sym (judged .judge-many .ensures) ∙ ran .before .before .before .verdict .given .1) in
+    let done = sym (judged .judge-many .ensures) ∙ ran .before .before .before .verdict .given .1 in
+    let asks = many-asks (a .s) (a .vectors .now) (length (a .words .now)) _ done in
     let h = start .pre .0 .card (start .pre .0 .rest (asks .0) .0) in
     (start .pre .1, le-div-iff-mul-le (inputs-some (a .s) h .0) .0 (le-of-eq (asks .2)))
 

@@ -143,8 +143,9 @@ returns-6 c =
     let e = at-records f in
     let d = at-steps e in
     let b = at-vector d in
+    let is-net = sym (c .before .before .before .same6 .ensures) ∙ c .before .before .if6 .taken in
     c .net-of .ensures ∙ ap asNet (c .before .number-of .ensures)
-    ∙ rw (no-load (at-rest b), no-rest b, no-vector d, no-steps e, no-records f, sym (c .before .before .before .same6 .ensures) ∙ c .before .before .if6 .taken)
+    ∙ rw (no-load (at-rest b), no-rest b, no-vector d, no-steps e, no-records f, is-net)
 
 returns-7 : tie.Need-returns-7
 unfolding withOne
