@@ -16,16 +16,14 @@ use Rattle.lists.proofs.Bools.{or-later, not-both}
 use Rattle.lists.proofs.Tests.{map-on, out-map}
 use Rattle.lists.proofs.Order.{at-in}
 use Rattle.word.specs.Word.{bit, wordOf}
-use Rattle.word.specs.Times.{noTime}
 use Rattle.word.proofs.Bits.{bit-zero, bit-suc, bit-none}
 use Rattle.word.proofs.Words.{bit-word}
-use Rattle.word.proofs.Sets.{zero-lt}
-use Rattle.rule.specs.Net.{Net, netAt, pins, isSource, openPin, atPin}
-use Rattle.rule.specs.Chain.{pcSet}
+use Rattle.rule.specs.Net.{Net, netAt, isSource, openPin}
 use Rattle.rule.specs.Run.{ready, mark}
 use Rattle.rule.specs.Steps.{Step, sameStep, IsStep, readAt, stepReads, stepList, noStep, stepAt}
 use Rattle.rule.specs.declared.Refusal.the-variants.{OrderLength, OrderEntry, OrderEarly}
-use Rattle.rule.proofs.Nets.{at-open, at-net, not-open, net-open}
+use Rattle.rule.proofs.Nets.{not-open, net-open}
+use Rattle.rule.proofs.PinReads.{read-named, read-below, read-pin}
 use Rattle.rule.proofs.StepRuns.{ahead, read-there}
 use Rattle.rule.proofs.StepLists.{list-only}
 use Rattle.card_wiring.specs.declared.Verdict.the-variants.{Refused, Passed}
@@ -33,7 +31,7 @@ use Rattle.card.specs.declared.Session.{Session}
 use Rattle.card.specs.Session.{cardOf}
 use Rattle.card.specs.Held.{HasCard}
 use Rattle.card.proofs.Kept.{card-fits}
-use Rattle.step_vars.specs.Variables.{heldIn}
+use Rattle.step_vars.proofs.Holding.{held-net, held-open}
 use Rattle.step_orders.specs.Orders.{entriesFit, stepsOf, orderReady, orderJudged}
 use Rattle.step_orders.specs.Inner.Ready.{orderSteps, doneOf, markIn, readyIn, judgedIn}
 use Rattle.step_orders.proofs.Judging.{entries-of}
@@ -84,15 +82,17 @@ module _ (s : Session) (h : HasCard s) where
   Readable j = ((j .net < 256) × (j .time < 64)) ⊎ ((j .net ≡ openPin) × (ahead j ≡ true))
 
   read-readable : (k : Step) (p : ℕ) → InRange k → (p < length c) ⊎ (p ≡ openPin) → (ahead (readAt c (k .time) p) ≡ true) ⊎ IsStep c (readAt c (k .time) p) → Readable (readAt c (k .time) p)
-  unfolding readAt
-  read-readable k p r (inl q) w = let few = card-fits s h .fits .few in inl (omega arith, omega (arith, zero-lt (pcSet c p) (k .time) noTime (r .1)))
-  read-readable k p r (inr q) (inl a) = inr (q, a)
-  read-readable k p r (inr q) (inr t) = absurd (not-both (isSource (netAt c p)) (ap (λ x. isSource (netAt c x)) q ∙ open-source) (t .gated))
+  read-readable k p r (inl q) w =
+      let few = card-fits s h .fits .few in
+      inl (omega (arith, ap (λ x. x .net) (read-named c (k .time) p)), omega (arith, read-below c (k .time) p (r .1)))
+  read-readable k p r (inr q) (inl a) = inr (ap (λ x. x .net) (read-named c (k .time) p) ∙ q, a)
+  read-readable k p r (inr q) (inr t) =
+      let pin = ap (λ x. x .net) (read-named c (k .time) p) ∙ q in
+      absurd (not-both (isSource (netAt c (readAt c (k .time) p .net))) (ap (λ x. isSource (netAt c x)) pin ∙ open-source) (t .gated))
 
   reads-readable : (k j : Step) → InRange k → j ∈ stepReads c k → Readable j
-  unfolding stepReads
   reads-readable k j r m =
-      let o = out-map (readAt c (k .time)) (pins c (k .net)) j m in
+      let o = read-pin c k j m in
       subst Readable (sym (o .2)) (read-readable k (o .0) r (h .accepted .named (k .net) (o .0) (o .1)) (read-there c (k .time) (o .0) (r .1)))
 
   -- the words tell of these variables what a test tells
@@ -100,12 +100,10 @@ module _ (s : Session) (h : HasCard s) where
   Agree words there = (j : Step) → Readable j → doneOf words j ≡ there j
 
   done-bit : (words : List ℕ) (j : Step) → j .net < 256 → doneOf words j ≡ bit (getD words (j .net) 0) (j .time)
-  unfolding heldIn
-  done-bit words j l = at-net true (λ n. bit (getD words n 0) (j .time)) (j .net) (not-open (j .net) (omega arith))
+  done-bit words j l = held-net true words j (not-open (j .net) (omega arith))
 
   done-loose : (words : List ℕ) (j : Step) → j .net ≡ openPin → doneOf words j ≡ true
-  unfolding heldIn
-  done-loose words j e = ap (atPin true (λ n. bit (getD words n 0) (j .time))) e ∙ at-open true (λ n. bit (getD words n 0) (j .time))
+  done-loose words j e = held-open true words j e
 
   -- ahead of all steps
   agree-start : (words : List ℕ) → ((n : ℕ) → n < 256 → getD words n 0 ≡ 1) → Agree words ahead

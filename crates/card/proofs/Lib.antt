@@ -2,3 +2,4 @@ pub mod Tests
 pub mod Kept
 pub mod Reading
 pub mod Verdicts
+pub mod Sessions

@@ -50,7 +50,7 @@ module _ (s : List ℕ) where
   first-of : (at : ℕ) (t : List ℕ) → drop at s ≡ t → getD s at 0 ≡ getD t 0 0
   first-of at t h = let x : at + 0 ≡ at = omega arith in rw x at (byte-of at 0 t h)
 
-  two-of : (at x : ℕ) (t : List ℕ) → drop at s ≡ two x ++ t → u16At s at ≡ x
+  pub two-of : (at x : ℕ) (t : List ℕ) → drop at s ≡ two x ++ t → u16At s at ≡ x
   unfolding u16At
   two-of at x t h = rw (first-of at (two x ++ t) h, byte-of at 1 (two x ++ t) h) (omega arith)
 

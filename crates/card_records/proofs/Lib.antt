@@ -1,4 +1,5 @@
 pub mod Heads
+pub mod TwoBytes
 pub mod Found
 pub mod Meant
 pub mod Scans
@@ -6,6 +7,7 @@ pub mod Pushed
 pub mod Walk
 pub mod Spelled
 pub mod Again
+pub mod Sizes
 pub mod Faults
 pub mod Cards
 pub mod Fitted

@@ -1,2 +1,3 @@
 pub mod Answering
 pub mod Vectors
+pub mod Packing

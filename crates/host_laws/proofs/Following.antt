@@ -37,6 +37,7 @@ use Rattle.host_bytes.specs.Layout.{sessionLength}
 use Rattle.host_made.specs.Made.{madeAgain}
 use Rattle.host_made.proofs.Making.{again-good}
 use Rattle.host.specs.Calls.{packed, Hosted, Shown, leftBy, hostMove, hostHistory}
+use Rattle.host.proofs.Packing.{done-0, packed-few}
 use Rattle.host.proofs.Answering.{move-left, history-shown}
 use Rattle.host_laws.specs.Following.{Holding, HostCall, bytesAfter, sessionAfter, hostAnswers, libraryAnswers}
 use Rattle.host_laws.proofs.Opened.{Kept, keeps-none, opened, closed}
@@ -48,7 +49,7 @@ zeros-hold b l h z = record { room = l; bytes = h; made = closed b h none (keeps
 
 -- a refused call leaves every byte as it was, of any bytes
 pub refused-kept : (how : Move) (b v : List ℕ) → ¬ (hostMove how b v .answer % 256 ≡ 0) → hostMove how b v .bytes ≡ b
-unfolding hostMove packed
+unfolding hostMove
 refused-kept how b v n = go (ltb (length b) sessionLength) (madeAgain b .whole) (operated how (madeAgain b .session) v .answer) n
   where
     short : Hosted
@@ -62,12 +63,12 @@ refused-kept how b v n = go (ltb (length b) sessionLength) (madeAgain b .whole) 
     go true y a n = refl
     go false false a n = refl
     go false true (Refused why) n = refl
-    go false true (Done count) n = absurd (n (omega arith))
+    go false true (Done count) n = absurd (n (done-0 count))
 
 -- and a refused history leaves the three slices
 pub history-kept : (b words befores flags : List ℕ) → ¬ (hostHistory b words befores flags .answer % 256 ≡ 0)
     → (hostHistory b words befores flags .words ≡ words) × (hostHistory b words befores flags .befores ≡ befores) × (hostHistory b words befores flags .flags ≡ flags)
-unfolding hostHistory packed
+unfolding hostHistory
 history-kept b words befores flags bad = go (ltb (length b) sessionLength) (madeAgain b .whole) (historyOf (madeAgain b .session) words befores flags) refl bad
   where
     kept : Answer → Shown
@@ -80,7 +81,7 @@ history-kept b words befores flags bad = go (ltb (length b) sessionLength) (made
     refused h q (Refused why) e x =
         let same = sym q ∙ history-refused (madeAgain b .session) words befores flags why (ap (λ k. k .answer) q ∙ e) in
         (ap (λ k. k .words) same, ap (λ k. k .befores) same, ap (λ k. k .flags) same)
-    refused h q (Done count) e x = absurd (x (omega arith))
+    refused h q (Done count) e x = absurd (x (done-0 count))
 
     go : (x y : Bool) (h : Told) → historyOf (madeAgain b .session) words befores flags ≡ h
         → ¬ (cond x (kept (Refused NoRoom)) (cond y (shows h) (kept (Refused NotReady))) .answer % 256 ≡ 0)
@@ -175,10 +176,6 @@ history-follows b s h words befores flags =
     sym (history-shown b words befores flags (packed (t .answer)) t (h .room) (ap (λ m. m .whole) (h .made)) (sym e) refl)
 
 -- The count is whole in the number that is handed back
-
-packed-few : (a : Answer) → answerCount a ≤ 4096 → packed a ≡ answerNumber a + 256 * answerCount a
-unfolding packed
-packed-few a l = let e : answerCount a % 65536 ≡ answerCount a = omega arith in ap (λ k. answerNumber a + 256 * k) e
 
 module _ (s : Session) (v : List ℕ) where
   few-load : Bytes v → answerCount (operated Load s v .answer) ≤ 4096

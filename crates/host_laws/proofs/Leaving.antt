@@ -1,6 +1,6 @@
 -- The bytes that a call leaves, when it was done, hold the session that the operation left. Assumes nothing.
 use mathlib.Core.Path.{_≡_, sym, ap, subst, _∙_}
-use mathlib.Core.Bool.{true, false≢true}
+use mathlib.Core.Bool.{Bool, true, false≢true}
 use mathlib.Core.List.{List, [], _∷_}
 use Prim.Native.Nat.{ℕ, _+_, _≤_, _<_}
 use native.Mathlib.Omega.{arith}
@@ -13,20 +13,22 @@ use Rattle.inputs.specs.Allowed.{Vector}
 use Rattle.card_records.specs.Bytes.{u16At}
 use Rattle.card_records.specs.Written.{Bytes}
 use Rattle.card.specs.declared.Session.{Session}
-use Rattle.card.specs.Session.{none, sessionOf, cardOf}
+use Rattle.card.specs.Session.{sessionOf}
 use Rattle.card.specs.Allowed.{Allowed}
 use Rattle.card.proofs.Kept.{session-holds}
+use Rattle.card.proofs.Sessions.{none-loaded, none-rested, taken-unrested, inputs-few}
 use Rattle.session.specs.Moves.{movedBy, restedBy}
+use Rattle.session.proofs.Same.{Same, rest-afresh}
+use Rattle.session.proofs.Restarts.{moved-again}
 use Rattle.operations.specs.declared.Engine.{Engine}
 use Rattle.host_bytes.specs.Layout.{olderAt, lastAt, cardAt, longestCard, cardTo, sessionLength}
 use Rattle.host_bytes.specs.Kept.{lastRoom, markOf, keptCard, keptRest, keptVector}
 use Rattle.host_bytes.proofs.Bytes.{room-bytes, room-at, one-byte, zero-byte, mark-byte}
-use Rattle.host_made.proofs.Making.{inputs-few}
+use Rattle.host_bytes.proofs.Rooms.{card-long, card-bytes, card-state, card-length, card-clear, card-part, rooms, rooms-long, rooms-bytes, rooms-state, rooms-length, rooms-clear, rooms-card, rooms-given, rest-rooms, vector-rooms, room-moved}
 use Rattle.host_laws.specs.Following.{Holding}
-use Rattle.host_laws.proofs.Rooms.{card-long, card-bytes, card-state, card-fitting, card-length, card-clear, card-part, rooms, rooms-long, rooms-bytes, rooms-state, rooms-length, rooms-clear, rooms-card, rooms-fit, rooms-given, room-moved, fitting-none}
+use Rattle.host_laws.proofs.Fits.{card-fitting, rooms-fit, fitting-none}
 use Rattle.host_laws.proofs.Sizes.{card-size}
-use Rattle.host_laws.proofs.Restarts.{moved-again}
-use Rattle.host_laws.proofs.Opened.{Carried, inputs, values, atRest, afterBoth, Kept, keeps-none, keeps-card, keeps-rest, keeps-moved, closed}
+use Rattle.host_laws.proofs.Opened.{Carried, inputs, values, atRest, afterBoth, Kept, keeps-none, keeps-card, keeps-rest, keeps-moved, closed, rest-same, both-same, both-keeps}
 
 module _ (b v : List ℕ) (long : sessionLength ≤ length b) (bytes : Bytes b) (given-bytes : Bytes v) where
   -- A card that was just loaded
@@ -97,35 +99,46 @@ module _ (b v : List ℕ) (long : sessionLength ≤ length b) (bytes : Bytes b) 
 
   -- whatever the session was
 
+  rested-anew : (c : List Net) → Carried b c → (r : Bool) (s : Session) → Same (sessionOf c) r s → Vector (s .inputs) v
+      → Kept (rooms b 2 (0 ∷ []) v) (restedBy s (given (s .kinds) v))
+  rested-anew c d r s e w =
+      subst (Kept (rooms b 2 (0 ∷ []) v))
+      (sym (rest-afresh (sessionOf c) r s e (given (s .kinds) v) ∙ ap (λ x. restedBy (sessionOf c) (given (x .kinds) v)) e))
+      (rested-kept c d (subst (λ x. Vector (x .inputs) v) e w))
+
   rest-kept : (s : Session) → Kept b s → s .loaded ≡ true → Vector (s .inputs) v → Kept (rooms b 2 (0 ∷ []) v) (restedBy s (given (s .kinds) v))
-  unfolding none restedBy movedBy cardOf
-  rest-kept s (keeps-none z e) l w = absurd (false≢true l)
+  rest-kept s (keeps-none z e) l w = absurd (false≢true (sym none-loaded ∙ l))
   rest-kept s (keeps-card c d z f) l w = rested-kept c d w
-  rest-kept s (keeps-rest c d z f u) l w = rested-kept c d w
-  rest-kept s (keeps-moved e c d z f u t) l w = rested-kept c d w
+  rest-kept s (keeps-rest c d z f u) l w = rested-anew c d true s (rest-same c _) w
+  rest-kept s (keeps-moved e c d z f u t) l w = rested-anew c d true s (both-keeps c _ _) w
 
   vector-kept : (engine : Engine) (s : Session) → Kept b s → s .rested ≡ true → Vector (s .inputs) v → Kept (rooms b (markOf engine) (lastRoom b) v) (movedBy s (given (s .kinds) v))
-  unfolding none sessionOf restedBy movedBy
-  vector-kept engine s (keeps-none z e) l w = absurd (false≢true l)
-  vector-kept engine s (keeps-card c d z f) l w = absurd (false≢true l)
-  vector-kept engine s (keeps-rest c d z f u) l w = moved-kept c d w engine (fitting-none b 0 (inputs c) f .1) u
+  vector-kept engine s (keeps-none z e) l w = absurd (false≢true (sym none-rested ∙ l))
+  vector-kept engine s (keeps-card c d z f) l w = absurd (false≢true (sym (taken-unrested c) ∙ l))
+  vector-kept engine s (keeps-rest c d z f u) l w =
+      let last = part b lastAt (inputs c) in
+      subst (Kept (rooms b (markOf engine) (lastRoom b) v)) (sym (both-same c last v))
+      (moved-kept c d (subst (λ x. Vector (x .inputs) v) (rest-same c last) w) engine (fitting-none b 0 (inputs c) f .1) u)
   vector-kept engine s (keeps-moved e c d z f u t) l w =
-      let o = values c (part b olderAt (inputs c)) in
-      let last = values c (part b lastAt (inputs c)) in
-      subst (Kept (rooms b (markOf engine) (lastRoom b) v)) (sym (moved-again (sessionOf c) (session-holds c (d .accepted)) o last (values c v)))
-      (moved-kept c d w engine (fitting-none b (inputs c) (inputs c) f .1) t)
+      let o = part b olderAt (inputs c) in
+      let last = part b lastAt (inputs c) in
+      let same = both-keeps c o last in
+      subst (Kept (rooms b (markOf engine) (lastRoom b) v))
+      (sym (ap (λ x. movedBy s (given (x .kinds) v)) same
+      ∙ moved-again (sessionOf c) (session-holds c (d .accepted)) (values c o) (values c last) (values c v)))
+      (moved-kept c d (subst (λ x. Vector (x .inputs) v) same w) engine (fitting-none b (inputs c) (inputs c) f .1) t)
 
   pub rest-holds : (s : Session) → Kept b s → s .loaded ≡ true → Vector (s .inputs) v → Holding (keptRest b v) (restedBy s (given (s .kinds) v))
-  unfolding keptRest
   rest-holds s k l w =
       let o : List ℕ = 0 ∷ [] in
       let h = rooms-bytes b 2 o v long bytes (lit< tt) (one-byte 0 (lit< tt)) given-bytes in
-      record { room = rooms-long b 2 o v long; bytes = h; made = closed (rooms b 2 o v) h (restedBy s (given (s .kinds) v)) (rest-kept s k l w) }
+      subst (λ x. Holding x (restedBy s (given (s .kinds) v))) (sym (rest-rooms b v))
+      (record { room = rooms-long b 2 o v long; bytes = h; made = closed (rooms b 2 o v) h (restedBy s (given (s .kinds) v)) (rest-kept s k l w) })
 
   pub vector-holds : (engine : Engine) (s : Session) → Kept b s → s .rested ≡ true → Vector (s .inputs) v → Holding (keptVector engine b v) (movedBy s (given (s .kinds) v))
-  unfolding keptVector
   vector-holds engine s k l w =
       let m = markOf engine in
       let o = lastRoom b in
       let h = rooms-bytes b m o v long bytes (mark-byte engine) (room-bytes b bytes) given-bytes in
-      record { room = rooms-long b m o v long; bytes = h; made = closed (rooms b m o v) h (movedBy s (given (s .kinds) v)) (vector-kept engine s k l w) }
+      subst (λ x. Holding x (movedBy s (given (s .kinds) v))) (sym (vector-rooms engine b v))
+      (record { room = rooms-long b m o v long; bytes = h; made = closed (rooms b m o v) h (movedBy s (given (s .kinds) v)) (vector-kept engine s k l w) })

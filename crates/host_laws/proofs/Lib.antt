@@ -1,6 +1,5 @@
-pub mod Rooms
+pub mod Fits
 pub mod Sizes
-pub mod Restarts
 pub mod Opened
 pub mod Leaving
 pub mod Following

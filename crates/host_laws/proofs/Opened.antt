@@ -21,11 +21,13 @@ use Rattle.card.specs.declared.Loaded.{Loaded}
 use Rattle.card.specs.Session.{none, sessionOf}
 use Rattle.card.specs.Load.{loadOf, taken}
 use Rattle.card.specs.Allowed.{Accepted}
+use Rattle.card.proofs.Sessions.{taken-loaded}
 use Rattle.card.proofs.Verdicts.{load-takes, ruled as load-ruled, Ruling as LoadRuling, refuses as load-refuses, takes as load-allows}
 use Rattle.session.specs.declared.Moved.{Moved}
 use Rattle.session.specs.Good.{Good}
 use Rattle.session.specs.Moves.{movedBy, restedBy, restOf}
 use Rattle.session.proofs.Kept.{taken-good, rested-good}
+use Rattle.session.proofs.Same.{Same, rested-same, moved-same}
 use Rattle.session.proofs.Refusals.{Ruling, refuses, takes, rest-ruled, rest-takes}
 use Rattle.operations.specs.declared.Engine.{Engine}
 use Rattle.operations.specs.declared.Engine.the-variants.{Fields, Steps}
@@ -71,21 +73,32 @@ pub data Kept (b : List ℕ) : Session → Type 0 where
 
 -- Of a card just loaded
 
-pub is-loaded : (c : List Net) → sessionOf c .loaded ≡ true
-unfolding sessionOf
-is-loaded c = refl
-
--- a vector to a card at rest
+-- it rests by a vector, and keeps all else
 pub rest-taken : (c : List Net) (v : List ℕ) → Vector (inputs c) v → restOf (sessionOf c) v ≡ record { answer = Done 0; session = atRest c v }
-rest-taken c v w = rest-takes (sessionOf c) v (is-loaded c) w
+rest-taken c v w = rest-takes (sessionOf c) v (taken-loaded c) w
+
+pub rest-same : (c : List Net) (v : List ℕ) → Same (sessionOf c) true (atRest c v)
+rest-same c v = rested-same (sessionOf c) (sessionOf c .rested) (sessionOf c) refl (values c v)
 
 pub rest-good : (c : List Net) (v : List ℕ) → Accepted c → Good (atRest c v)
-rest-good c v a = rested-good (sessionOf c) (taken-good c a) (is-loaded c) (values c v)
+rest-good c v a = rested-good (sessionOf c) (taken-good c a) (taken-loaded c) (values c v)
+
+-- a vector fits it at rest as it fits the card just loaded
+rest-fits : (c : List Net) (v w : List ℕ) → Vector (inputs c) w → Vector (atRest c v .inputs) w
+rest-fits c v w h = subst (λ s. Vector (s .inputs) w) (sym (rest-same c v)) h
+
+-- and the next vector gives its nets the same values
+pub both-same : (c : List Net) (v w : List ℕ) → movedBy (atRest c v) (given (atRest c v .kinds) w) ≡ afterBoth c v w
+both-same c v w = ap (λ s. movedBy (atRest c v) (given (s .kinds) w)) (rest-same c v)
+
+pub both-keeps : (c : List Net) (v w : List ℕ) → Same (sessionOf c) true (afterBoth c v w)
+both-keeps c v w = moved-same (sessionOf c) true (atRest c v) (rest-same c v) (values c w)
 
 pub both-taken : (e : Engine) (c : List Net) (v w : List ℕ) → Accepted c → Vector (inputs c) w
     → vectorBy e (atRest c v) w ≡ record { answer = Done (countBy e (atRest c v)); session = afterBoth c v w }
-unfolding restedBy
-both-taken e c v w a h = by-takes e (atRest c v) (rest-good c v a) refl w h
+both-taken e c v w a h =
+    by-takes e (atRest c v) (rest-good c v a) (ap (λ s. s .rested) (rest-same c v)) w (rest-fits c v w h)
+    ∙ ap (λ s. record { answer = Done (countBy e (atRest c v)); session = s }) (both-same c v w)
 
 -- a card that a vector moved is some card
 mark-some : (e : Engine) → ¬ (markOf e ≡ 0)
@@ -158,7 +171,7 @@ module _ (b : List ℕ) (h : Bytes b) where
         go false f = opens-not
 
     opens-moved : (e : Engine) → getD b 0 0 ≡ markOf e → Opens (madeMoved e b (sessionOf c))
-    unfolding madeMoved madeBy restedBy
+    unfolding madeMoved madeBy
     opens-moved e z = go (fitting b (inputs c) (inputs c)) refl
       where
         o : List ℕ
@@ -168,10 +181,11 @@ module _ (b : List ℕ) (h : Bytes b) where
         v = part b lastAt (inputs c)
 
         last : fitting b (inputs c) (inputs c) ≡ true → Vector (inputs c) o
-            → (m : Moved) → Ruling (atRest c o .rested) (atRest c o) v (countBy e (atRest c o)) (afterBoth c o v) m
+            → (m : Moved) → Ruling (atRest c o .rested) (atRest c o) v (countBy e (atRest c o)) (movedBy (atRest c o) (given (atRest c o .kinds) v)) m
             → Opens (whenDone (m .answer) (held (m .session)))
         last f w m (refuses r g) = opens-not
-        last f w m (takes l u) = inr (keeps-moved e c k z f w u)
+        last f w m (takes l u) =
+            inr (subst (Kept b) (sym (both-same c o v)) (keeps-moved e c k z f w (subst (λ s. Vector (s .inputs) v) (rest-same c o) u)))
 
         by : fitting b (inputs c) (inputs c) ≡ true → (m : Moved) → Ruling (sessionOf c .loaded) (sessionOf c) o 0 (atRest c o) m
             → Opens (whenDone (m .answer) (madeBy (vectorBy e (m .session) v)))

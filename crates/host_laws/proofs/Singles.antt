@@ -3,17 +3,15 @@
 use mathlib.Core.Path.{_≡_, refl, sym, ap, subst, _∙_}
 use mathlib.Core.Bool.{Bool, true, false, cond}
 use mathlib.Core.List.{List, [], _∷_, _++_}
-use mathlib.Core.Logic.{inl, inr}
-use Prim.Native.Nat.{ℕ, zero, suc, _+_, _-_, _*_, _/_, _%_, _≤_, _<_}
+use Prim.Native.Nat.{ℕ, zero, suc, _+_, _*_, _/_, _%_, _≤_, _<_}
 use native.Mathlib.Nat.{le-of-eq, le-div-iff-mul-le, mul-le-mul-right}
 use native.Mathlib.Omega.{arith}
-use native.Mathlib.Decide.{decLt}
 use lib.Dec.{ltb}
-use lib.ListN.{length, getD, List·getD-eq-default}
+use lib.ListN.{length, getD}
 use Rattle.lists.specs.Entries.{every}
 use Rattle.lists.specs.Places.{part}
 use Rattle.lists.proofs.Listed.{listed-none, listed-more}
-use Rattle.lists.proofs.Places.{turn-fits, area-in, area-out}
+use Rattle.lists.proofs.Places.{turn-fits}
 use Rattle.rule.specs.declared.Refusal.the-variants.{NotReady, NoRoom}
 use Rattle.rule.specs.declared.Answer.{Answer}
 use Rattle.rule.specs.declared.Answer.the-variants.{Done, Refused}
@@ -28,78 +26,24 @@ use Rattle.operations.specs.declared.Engine.{Engine}
 use Rattle.operations.specs.declared.Engine.the-variants.{Fields}
 use Rattle.operations.specs.declared.Move.the-variants.{Vector}
 use Rattle.operations.specs.Operated.{vectorBy, operated}
-use Rattle.host_bytes.specs.Layout.{olderAt, sessionLength}
-use Rattle.host_bytes.specs.Kept.{lastRoom, markOf, keptVector}
-use Rattle.host_bytes.proofs.Bytes.{room-at, part-bytes}
+use Rattle.host_bytes.specs.Layout.{sessionLength}
+use Rattle.host_bytes.specs.Kept.{keptVector}
+use Rattle.host_bytes.proofs.Bytes.{part-bytes}
+use Rattle.host_bytes.proofs.Rooms.{length-kept, kept-forgets}
 use Rattle.host_made.specs.Made.{madeAgain}
 use Rattle.host_many.specs.Many.{manyBy, manyJudged, keptMany}
+use Rattle.host_many.proofs.Words.{run-words, run-past}
 use Rattle.host_many.proofs.Many.{many-length, many-asks, many-left, each-count, many-same}
 use Rattle.host.specs.Calls.{packed, leftBy, hostMove, hostHistory}
 use Rattle.host.specs.Vectors.{manyDone, ManyShown, hostVectors}
+use Rattle.host.proofs.Packing.{done-0}
 use Rattle.host.proofs.Vectors.{vectors-done}
 use Rattle.host_laws.specs.Following.{Holding, HostCall, bytesAfter, sessionAfter, eachVector}
-use Rattle.host_laws.proofs.Rooms.{rooms, length-rooms, rooms-state, kept-at, rooms-older, rooms-last, Elsewhere, same-bytes}
 use Rattle.host_laws.proofs.Following.{held-good, move-is, move-follows, history-follows}
 
 -- What vectors keep, one after another
 
 module _ (engine : Engine) where
-  abbrev k : ℕ
-  k = markOf engine
-
-  length-kept : (b v : List ℕ) → length (keptVector engine b v) ≡ length b
-  unfolding keptVector
-  length-kept b v = length-rooms b k (lastRoom b) v
-
-  -- after two vectors the bytes have both, and else what they had
-  module _ (b u w : List ℕ) (long : sessionLength ≤ length b) where
-    abbrev one : List ℕ
-    one = rooms b k (lastRoom b) u
-
-    abbrev two : List ℕ
-    two = rooms one k (lastRoom one) w
-
-    one-long : sessionLength ≤ length one
-    one-long = omega (arith, length-rooms b k (lastRoom b) u, long)
-
-    two-older : (i : ℕ) → i < 256 → getD two (olderAt + i) 0 ≡ getD u i 0
-    two-older i l = rooms-older one k (lastRoom one) w one-long i l ∙ room-at one i l ∙ rooms-last b k (lastRoom b) u long i l
-
-    two-else : Elsewhere two b
-    two-else i o p q = kept-at one k (lastRoom one) w one-long i o p (omega (arith, length-rooms b k (lastRoom b) u, q)) ∙ kept-at b k (lastRoom b) u long i o p q
-
-  -- so of three vectors the first is forgotten
-  pub kept-forgets : (b x u w : List ℕ) → sessionLength ≤ length b
-      → keptVector engine (keptVector engine (keptVector engine b x) u) w ≡ keptVector engine (keptVector engine b u) w
-  unfolding keptVector
-  kept-forgets b x u w long =
-      same-bytes (two a u w more) (two b u w long) size
-      (rooms-state (one a u w more) k (lastRoom (one a u w more)) w (one-long a u w more)
-      ∙ sym (rooms-state (one b u w long) k (lastRoom (one b u w long)) w (one-long b u w long)))
-      (λ i l. two-older a u w more i l ∙ sym (two-older b u w long i l))
-      (λ i l. rooms-last (one a u w more) k (lastRoom (one a u w more)) w (one-long a u w more) i l
-      ∙ sym (rooms-last (one b u w long) k (lastRoom (one b u w long)) w (one-long b u w long) i l))
-      (λ i o p q. two-else a u w more i o p (omega (arith, same-two, same-a, q)) ∙ kept-at b k (lastRoom b) x long i o p (omega (arith, same-two, q))
-      ∙ sym (two-else b u w long i o p (omega (arith, same-two, q))))
-    where
-      a : List ℕ
-      a = rooms b k (lastRoom b) x
-
-      same-a : length a ≡ length b
-      same-a = length-rooms b k (lastRoom b) x
-
-      more : sessionLength ≤ length a
-      more = omega (arith, same-a, long)
-
-      both : (y : List ℕ) (l : sessionLength ≤ length y) → length (two y u w l) ≡ length y
-      both y l = length-rooms (one y u w l) k (lastRoom (one y u w l)) w ∙ length-rooms y k (lastRoom y) u
-
-      same-two : length (two b u w long) ≡ length b
-      same-two = both b long
-
-      size : length (two a u w more) ≡ length (two b u w long)
-      size = both a more ∙ same-a ∙ sym same-two
-
   -- the bytes that the first j of many vectors leave, each kept after the one before it
   keptEach : List ℕ → List ℕ → ℕ → ℕ → List ℕ
   keptEach b vs n zero = b
@@ -108,14 +52,15 @@ module _ (engine : Engine) where
   length-each : (b vs : List ℕ) (n j : ℕ) → length (keptEach b vs n j) ≡ length b
   unfolding keptEach
   length-each b vs n zero = refl
-  length-each b vs n (suc j) = length-kept (keptEach b vs n j) (part vs (j * n) n) ∙ length-each b vs n j
+  length-each b vs n (suc j) = length-kept engine (keptEach b vs n j) (part vs (j * n) n) ∙ length-each b vs n j
 
   -- only the last two are seen
   last-two : (b vs : List ℕ) (n : ℕ) → sessionLength ≤ length b → (j : ℕ) (u w : List ℕ)
       → keptVector engine (keptVector engine (keptEach b vs n j) u) w ≡ keptVector engine (keptVector engine b u) w
   unfolding keptEach
   last-two b vs n long zero u w = refl
-  last-two b vs n long (suc j) u w = kept-forgets (keptEach b vs n j) (part vs (j * n) n) u w (omega (arith, length-each b vs n j, long)) ∙ last-two b vs n long j u w
+  last-two b vs n long (suc j) u w =
+      kept-forgets engine (keptEach b vs n j) (part vs (j * n) n) u w (omega (arith, length-each b vs n j, long)) ∙ last-two b vs n long j u w
 
   each-many : (b vs : List ℕ) (n j : ℕ) → sessionLength ≤ length b → keptEach b vs n j ≡ keptMany engine b vs n j
   unfolding keptMany keptEach
@@ -184,7 +129,7 @@ module _ (engine : Engine) (b : List ℕ) (s : Session) (h : Holding b s) (vs ro
 -- a refused call leaves every byte, and the room, as they were, of any bytes
 pub many-refused : (engine : Engine) (b vs room : List ℕ) → ¬ (hostVectors engine b vs room .answer % 256 ≡ 0)
     → (hostVectors engine b vs room .bytes ≡ b) × (hostVectors engine b vs room .words ≡ room)
-unfolding hostVectors packed
+unfolding hostVectors
 many-refused engine b vs room x = go (ltb (length b) sessionLength) (madeAgain b .whole) (manyJudged (madeAgain b .session) vs (length room)) x
   where
     kept : Answer → ManyShown
@@ -199,61 +144,7 @@ many-refused engine b vs room x = go (ltb (length b) sessionLength) (madeAgain b
     go true y a x = (refl, refl)
     go false false a x = (refl, refl)
     go false true (Refused why) x = (refl, refl)
-    go false true (Done j) x = absurd (x (omega arith))
-
--- The words of each vector
-
-module _ (engine : Engine) (s : Session) (vs : List ℕ) (n : ℕ) (room : List ℕ) where
-  -- the words of vector j stay where they were put, whatever vectors come after it
-  pub run-words : (k : ℕ) → k * s .nets ≤ length room → (j m : ℕ) → j < k → m < s .nets
-      → getD (manyBy engine s vs n k room .words) (j * s .nets + m) 0 ≡ getD (manyBy engine s vs n (suc j) room .session .words) m 0
-  unfolding manyBy
-  run-words zero f j m l u = absurd (omega arith)
-  run-words (suc k) f j m l u = go (λ b. run-words k (omega (arith, now)) j m b u) (decLt j k)
-    where
-      now : k * s .nets + s .nets ≤ length room
-      now = turn-fits k (suc k) (s .nets) (length room) (omega arith) f
-
-      so-far : List ℕ
-      so-far = manyBy engine s vs n k room .words
-
-      next : List ℕ
-      next = manyBy engine s vs n (suc k) room .session .words
-
-      long : length so-far ≡ length room
-      long = many-length engine s vs n k room
-
-      go : (j < k → getD so-far (j * s .nets + m) 0 ≡ getD (manyBy engine s vs n (suc j) room .session .words) m 0) → Dec (j < k)
-          → getD (manyBy engine s vs n (suc k) room .words) (j * s .nets + m) 0 ≡ getD (manyBy engine s vs n (suc j) room .session .words) m 0
-      go ih (yes b) =
-          let ahead : j * s .nets + s .nets ≤ k * s .nets = turn-fits j k (s .nets) (k * s .nets) b (le-of-eq refl) in
-          area-out so-far (k * s .nets) (k * s .nets + s .nets) next (j * s .nets + m) (inl (omega (arith, ahead, u))) (omega (arith, ahead, u, now, long)) ∙ ih b
-      go ih (no b) =
-          let q : k ≡ j = omega arith in
-          let e : k * s .nets + m - k * s .nets ≡ m = omega arith in
-          subst (λ i. getD (manyBy engine s vs n (suc k) room .words) (i * s .nets + m) 0 ≡ getD (manyBy engine s vs n (suc i) room .session .words) m 0) q
-          (area-in so-far (k * s .nets) (k * s .nets + s .nets) next (k * s .nets + m) (omega (arith, now, long)) (omega arith) (omega (arith, u)) ∙ ap (λ i. getD next i 0) e)
-
-  -- the room past the words of all vectors stays
-  pub run-past : (k i : ℕ) → k * s .nets ≤ i → getD (manyBy engine s vs n k room .words) i 0 ≡ getD room i 0
-  unfolding manyBy
-  run-past zero i f = refl
-  run-past (suc k) i f = go (run-past k i (omega (arith, past))) (decLt i (length room))
-    where
-      past : k * s .nets + s .nets ≤ i
-      past = turn-fits k (suc k) (s .nets) i (omega arith) f
-
-      so-far : List ℕ
-      so-far = manyBy engine s vs n k room .words
-
-      next : List ℕ
-      next = manyBy engine s vs n (suc k) room .session .words
-
-      go : getD so-far i 0 ≡ getD room i 0 → Dec (i < length room) → getD (manyBy engine s vs n (suc k) room .words) i 0 ≡ getD room i 0
-      go ih (yes l) = area-out so-far (k * s .nets) (k * s .nets + s .nets) next i (inr past) (omega (arith, many-length engine s vs n k room, l)) ∙ ih
-      go ih (no l) =
-          List·getD-eq-default (manyBy engine s vs n (suc k) room .words) 0 {n = i} (omega (arith, many-length engine s vs n (suc k) room, l))
-          ∙ sym (List·getD-eq-default room 0 {n = i} (omega arith))
+    go false true (Done j) x = absurd (x (done-0 (manyBy engine (madeAgain b .session) vs (madeAgain b .session .inputs) j room .count)))
 
 -- a history shows the words of the session that the bytes hold
 words-shown : (b : List ℕ) (s : Session) → Holding b s → s .rested ≡ true → (words befores flags : List ℕ) → Roomy (s .nets) words befores flags

@@ -1,33 +1,14 @@
--- How many bytes a card takes: at most 21 a net, and 4 for its end. Assumes nothing.
-use mathlib.Core.Path.{_≡_, refl}
-use mathlib.Core.List.{List, [], _∷_, _++_, List·Memᴰ·head, List·Memᴰ·tail}
-use Prim.Native.Nat.{_+_, _*_, _≤_}
+-- No card is longer than the room that lent bytes have for it. Assumes nothing.
+use mathlib.Core.List.{List}
+use Prim.Native.Nat.{_≤_}
 use native.Mathlib.Omega.{arith}
-use lib.ListN.{length, length-append}
-use Rattle.lists.specs.Entries.{each}
+use lib.ListN.{length}
 use Rattle.rule.specs.Net.{Net}
-use Rattle.card_records.specs.Written.{netBytes, endBytes, cardBytes, Legal, AllLegal}
-use Rattle.card_records.proofs.Heads.{kind-short}
-use Rattle.card_records.proofs.Again.{net-kind}
+use Rattle.card_records.specs.Written.{cardBytes}
+use Rattle.card_records.proofs.Sizes.{card-long}
 use Rattle.card.specs.Allowed.{Legible}
 use Rattle.host_bytes.specs.Layout.{longestCard}
 
-net-size : (w : Net) → Legal w → length (netBytes w) ≤ 21
-unfolding netBytes
-net-size w l = omega (arith, kind-short (net-kind w l))
-
-nets-size : (c : List Net) → AllLegal c → length (each netBytes c) ≤ 21 * length c
-nets-size [] l = omega arith
-nets-size (w ∷ c) l =
-    let e = length-append (netBytes w) (each netBytes c) in
-    let here = net-size w (l w (List·Memᴰ·head refl)) in
-    let rest = nets-size c (λ x m. l x (List·Memᴰ·tail m)) in
-    omega arith
-
 -- "1 to 256 nets", "gates of at most 8 pins": no card is longer than the longest
 pub card-size : (c : List Net) → Legible c → length (cardBytes c) ≤ longestCard
-unfolding cardBytes
-card-size c l =
-    let e : length (each netBytes c ++ endBytes) ≡ length (each netBytes c) + 4 = length-append (each netBytes c) endBytes in
-    let most = nets-size c (l .legal) in
-    omega (arith, l .few)
+card-size c l = omega (arith, card-long c (l .legal), l .few)

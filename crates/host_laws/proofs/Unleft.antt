@@ -15,10 +15,12 @@ use Rattle.lists.proofs.Bools.{yes-or-no}
 use Rattle.lists.proofs.Places.{clear-at, length-area, area-in, area-out, part-listed}
 use Rattle.lists.proofs.Listed.{length-listed}
 use Rattle.rule.specs.Net.{Net}
-use Rattle.rule.specs.declared.Answer.the-variants.{Done}
+use Rattle.rule.specs.declared.Refusal.the-variants.{NotReady}
+use Rattle.rule.specs.declared.Answer.the-variants.{Done, Refused}
 use Rattle.inputs.specs.Allowed.{Vector}
 use Rattle.card_records.specs.Bytes.{u16At}
 use Rattle.card_records.specs.Written.{Bytes}
+use Rattle.card_records.proofs.TwoBytes.{of-u16}
 use Rattle.card.specs.declared.Session.{Session}
 use Rattle.card.specs.Session.{none, sessionOf}
 use Rattle.operations.specs.declared.Engine.{Engine}
@@ -27,15 +29,17 @@ use Rattle.operations.specs.declared.Move.the-variants.{Load, Rest, Vector as B
 use Rattle.operations.specs.Operated.{operated}
 use Rattle.operations.proofs.Engines.{countBy}
 use Rattle.host_bytes.specs.Layout.{olderAt, lastAt, cardAt, cardTo, sessionLength}
-use Rattle.host_bytes.specs.Kept.{lastRoom, markOf, keptCard, keptRest, keptVector, keptBy}
+use Rattle.host_bytes.specs.Kept.{lastRoom, markOf, keptCard, keptBy}
 use Rattle.host_bytes.proofs.Bytes.{area-bytes, part-bytes, room-at, zero-byte}
+use Rattle.host_bytes.proofs.Rooms.{length-card, card-head, card-none, card-at, card-past, card-state, rooms, length-rooms, rooms-state, kept-at, rooms-older, rooms-last, rest-rooms, vector-rooms, Elsewhere, same-bytes}
 use Rattle.host_made.specs.Made.{fitting, madeAgain}
 use Rattle.host.specs.Calls.{packed, leftBy, hostMove}
+use Rattle.host.proofs.Packing.{refused-number}
 use Rattle.host.proofs.Answering.{move-broken, history-broken}
 use Rattle.host.proofs.Vectors.{vectors-broken}
 use Rattle.host_laws.specs.Following.{Holding, HostCall, bytesAfter, sessionAfter}
 use Rattle.host_laws.specs.Left.{Left, Unready}
-use Rattle.host_laws.proofs.Rooms.{length-card, card-head, card-none, card-at, card-past, card-state, rooms, length-rooms, rooms-state, kept-at, rooms-older, rooms-last, fitting-none, Elsewhere, same-bytes}
+use Rattle.host_laws.proofs.Fits.{fitting-none}
 use Rattle.host_laws.proofs.Opened.{Carried, inputs, atRest, afterBoth, Kept, keeps-none, keeps-card, keeps-rest, keeps-moved, carries, opened, rest-taken, both-taken}
 use Rattle.host_laws.proofs.Following.{zeros-hold, move-is, move-follows, all-follow}
 
@@ -145,19 +149,21 @@ module _ (b : List ℕ) (long : sessionLength ≤ length b) (ok : Bytes b) (c : 
   length-loaded = length-card start card begun ∙ simp length-area
 
   loaded-else : Elsewhere loaded b
-  unfolding u16At
   loaded-else i (inl l) p u = go (decLt i 2)
     where
+      was : (getD b 1 0 ≡ u16At b 1 % 256) × (getD b 2 0 ≡ u16At b 1 / 256 % 256)
+      was = of-u16 b 1 ok
+
       size : length card ≡ u16At b 1
       size = ap length (part-listed b cardAt (u16At b 1) (omega (arith, long, k .low))) ∙ length-listed _ (u16At b 1)
 
       go : Dec (i < 2) → getD loaded i 0 ≡ getD b i 0
       go (yes m) =
-          let e : getD loaded 1 0 ≡ getD b 1 0 = omega (arith, card-head start card begun 1 (lit< tt), size, ok 1, ok 2) in
+          let e : getD loaded 1 0 ≡ getD b 1 0 = omega (arith, card-head start card begun 1 (lit< tt), size, was .0) in
           let q : 1 ≡ i = omega arith in
           subst (λ j. getD loaded j 0 ≡ getD b j 0) q e
       go (no m) =
-          let e : getD loaded 2 0 ≡ getD b 2 0 = omega (arith, card-head start card begun 2 (lit< tt), size, ok 1, ok 2) in
+          let e : getD loaded 2 0 ≡ getD b 2 0 = omega (arith, card-head start card begun 2 (lit< tt), size, was .1) in
           let q : 2 ≡ i = omega arith in
           subst (λ j. getD loaded j 0 ≡ getD b j 0) q e
   loaded-else i (inr l) p u = go (decLt i cardTo)
@@ -191,8 +197,9 @@ module _ (b : List ℕ) (long : sessionLength ≤ length b) (ok : Bytes b) (c : 
   rested v = rooms loaded 2 (0 ∷ []) v
 
   rest-done : (v : List ℕ) → Bytes v → Vector (inputs c) v → (hostMove Rest loaded v .bytes ≡ rested v) × Holding (rested v) (atRest c v)
-  unfolding keptRest
-  rest-done v g w = call-done Rest loaded v (sessionOf c) (load-done .1) g 0 (atRest c v) (rest-taken c v w)
+  rest-done v g w =
+      let done = call-done Rest loaded v (sessionOf c) (load-done .1) g 0 (atRest c v) (rest-taken c v w) in
+      (done .0 ∙ rest-rooms loaded v, subst (λ x. Holding x (atRest c v)) (rest-rooms loaded v) (done .1))
 
   length-rested : (v : List ℕ) → length (rested v) ≡ length b
   length-rested v = length-rooms loaded 2 (0 ∷ []) v ∙ length-loaded
@@ -227,10 +234,10 @@ module _ (b : List ℕ) (long : sessionLength ≤ length b) (ok : Bytes b) (c : 
     moved = rooms before (markOf engine) (lastRoom before) last
 
     move-done : Vector (inputs c) older → Vector (inputs c) last → hostMove (ByEngine engine) before last .bytes ≡ moved
-    unfolding keptVector
     move-done w u =
         call-done (ByEngine engine) before last (atRest c older) (rest-done older (part-bytes b ok olderAt (inputs c)) w .1) (part-bytes b ok lastAt (inputs c))
         (countBy engine (atRest c older)) (afterBoth c older last) (both-taken engine c older last (k .accepted) u) .0
+        ∙ vector-rooms engine before last
 
     -- a card that a vector moved: three calls left it
     moved-left : getD b 0 0 ≡ markOf engine → fitting b (inputs c) (inputs c) ≡ true → Vector (inputs c) older → Vector (inputs c) last → Left b
@@ -273,13 +280,15 @@ left-made b l =
 
 -- of bytes that no calls left of a slice whose first `sessionLength` bytes were 0, every call answers 12 and leaves everything as it was
 pub unleft-12 : (b : List ℕ) → sessionLength ≤ length b → Bytes b → ¬ Left b → Unready b
-unfolding packed
 unleft-12 b long ok n = go (yes-or-no (madeAgain b .whole))
   where
+    is-12 : 12 ≡ packed (Refused NotReady)
+    is-12 = sym (refused-number NotReady)
+
     go : (madeAgain b .whole ≡ true) ⊎ (madeAgain b .whole ≡ false) → Unready b
     go (inl e) = absurd (n (bytes-left b long ok e))
     go (inr e) = record {
-      moves = λ how v. sym (move-broken how b v 12 long e refl);
-      histories = λ words befores flags. sym (history-broken b words befores flags 12 long e refl);
-      vectors = λ engine vs room. sym (vectors-broken engine b vs room 12 long e refl);
+      moves = λ how v. sym (move-broken how b v 12 long e is-12);
+      histories = λ words befores flags. sym (history-broken b words befores flags 12 long e is-12);
+      vectors = λ engine vs room. sym (vectors-broken engine b vs room 12 long e is-12);
     }

@@ -3,22 +3,19 @@ use mathlib.Core.Path.{_≡_, sym, subst}
 use mathlib.Core.Bool.{Bool, true, false, cond}
 use mathlib.Core.List.{List}
 use Prim.Native.Nat.{ℕ, _+_, _<_, _≤_}
-use native.Mathlib.Omega.{arith}
 use lib.Dec.{eqb, ltb}
-use lib.ListN.{length, getD}
+use lib.ListN.{getD}
 use borrow.Author.Tests.{ne-eqb, lt-ltb, le-ltb}
 use Rattle.lists.specs.Places.{part, clear}
-use Rattle.word.proofs.Sets.{count-le}
-use Rattle.rule.specs.Net.{Net, netAt, isInput}
 use Rattle.rule.specs.declared.Refusal.{Refusal}
 use Rattle.rule.specs.declared.Answer.{Answer}
 use Rattle.rule.specs.declared.Answer.the-variants.{Done, Refused}
 use Rattle.card_records.specs.Bytes.{u16At}
 use Rattle.card_records.specs.Written.{Bytes}
 use Rattle.card.specs.declared.Session.{Session}
-use Rattle.card.specs.Session.{none, inputsOf, sessionOf}
+use Rattle.card.specs.Session.{none}
 use Rattle.card.specs.Load.{loadOf}
-use Rattle.card.specs.Allowed.{Accepted}
+use Rattle.card.proofs.Sessions.{inputs-few}
 use Rattle.card.proofs.Verdicts.{load-taken}
 use Rattle.session.specs.Good.{Good}
 use Rattle.session.specs.declared.Moved.{Moved}
@@ -186,10 +183,6 @@ again-good b h = go (eqb (getD b 0 0) 0) (ltb longestCard (u16At b 1)) (clear b 
     go false false false = broken-good
 
 -- a card that was taken has at most 256 inputs
-pub inputs-few : (c : List Net) → Accepted c → sessionOf c .inputs ≤ 256
-unfolding sessionOf inputsOf
-inputs-few c a = omega (arith, count-le (λ n. isInput (netAt c n)) (length c), a .legible .few)
-
 pub few-inputs : (s : List ℕ) → Bytes s → (count : ℕ) → loadOf none s .answer ≡ Done count → loadOf none s .session .inputs ≤ 256
 few-inputs s h count e =
     let t = load-taken none s h count e in

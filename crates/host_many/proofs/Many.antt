@@ -23,10 +23,11 @@ use Rattle.inputs.specs.Allowed.{byteLimit, Vector}
 use Rattle.inputs.specs.Inputs.{byteFits, given}
 use Rattle.fields.specs.Inner.Fields.{advanced}
 use Rattle.card.specs.declared.Session.{Session}
-use Rattle.card.specs.Session.{cardOf, resting}
-use Rattle.session.specs.Good.{Good, histories}
+use Rattle.card.specs.Session.{resting}
+use Rattle.session.specs.Good.{Good}
 use Rattle.session.specs.Moves.{movedBy, vectorOf}
-use Rattle.session.proofs.Moving.{words-move}
+use Rattle.session.proofs.Moving.{words-long, words-move}
+use Rattle.session.proofs.Same.{Same, same-card, moved-same}
 use Rattle.session.proofs.Refusals.{vector-takes}
 use Rattle.operations.specs.declared.Engine.{Engine}
 use Rattle.operations.specs.declared.Engine.the-variants.{Fields, Steps}
@@ -88,7 +89,7 @@ module _ (engine : Engine) (s : Session) (g : Good s) (r : s .rested ≡ true) (
 
   pub record Left (z : Session) : Type 0 where
     pub good : Good z
-    pub same : z ≡ resting s true (z .before) (z .words)
+    pub same : Same s true z
 
   -- a session so left takes a vector that fits
   left-takes : (z : Session) → Left z → (v : List ℕ) → Vector (s .inputs) v
@@ -96,14 +97,9 @@ module _ (engine : Engine) (s : Session) (g : Good s) (r : s .rested ≡ true) (
   left-takes z h v w = by-takes engine z (h .good) (ap (λ x. x .rested) (h .same)) v (subst (λ x. Vector (x .inputs) v) (sym (h .same)) w)
 
   next-left : (z : Session) → Left z → (v : List ℕ) → Vector (s .inputs) v → Left (vectorBy engine z v .session)
-  unfolding movedBy
   next-left z h v w =
-      let m = movedBy z (given (z .kinds) v) in
-      let e : vectorBy engine z v .session ≡ m = ap (λ x. x .session) (left-takes z h v w) in
-      record {
-        good = by-good engine z (h .good) v;
-        same = e ∙ ap (λ x. resting x (x .rested) (m .before) (m .words)) (h .same) ∙ sym (ap (λ x. resting s true (x .before) (x .words)) e);
-      }
+      let e = ap (λ x. x .session) (left-takes z h v w) in
+      record { good = by-good engine z (h .good) v; same = subst (Same s true) (sym e) (moved-same s true z (h .same) (given (z .kinds) v)) }
 
   next-fits : (j : ℕ) → suc j * s .inputs ≤ length vs → j * s .inputs + s .inputs ≤ length vs
   next-fits j l = let e : j + 1 ≡ suc j = omega arith in omega (arith, turn-next j (s .inputs), ap (λ k. k * s .inputs) e, l)
@@ -116,19 +112,20 @@ module _ (engine : Engine) (s : Session) (g : Good s) (r : s .rested ≡ true) (
       next-left (left j) (many-left j (omega (arith, l′))) (bytes j) (many-vector vs (s .inputs) j fits l′)
 
   pub left-long : (j : ℕ) → j * s .inputs ≤ length vs → length (left j .words) ≡ 256
-  unfolding histories
-  left-long j l = let h = many-left j l in let held = h .good .rest (ap (λ x. x .rested) (h .same)) .1 in ap length (held .words-are) ∙ length-listed _ 256
+  left-long j l =
+      let g = many-left j l .good in
+      let held = g .rest (ap (λ x. x .rested) (many-left j l .same)) in
+      words-long (left j) (g .card (held .0)) (held .1)
 
   -- each vector is done, with the count that the card has by the engine
   next-count : (j : ℕ) → j * s .inputs + s .inputs ≤ length vs → vectorBy engine (left j) (bytes j) .answer ≡ Done (countBy engine s)
-  unfolding cardOf
   next-count j l =
       let h = many-left j (omega (arith, l)) in
       ap (λ m. m .answer) (left-takes (left j) h (bytes j) (many-vector vs (s .inputs) j fits l)) ∙ ap Done (by engine h)
     where
       by : (e : Engine) → Left (left j) → countBy e (left j) ≡ countBy e s
       by Fields h = refl
-      by Steps h = ap (λ x. length (stepList (cardOf x))) (h .same)
+      by Steps h = ap (λ c. length (stepList c)) (same-card s true (left j) (h .same))
 
   ran-count : (k : ℕ) → suc k * s .inputs ≤ length vs → manyBy engine s vs (s .inputs) (suc k) room .count ≡ countBy engine s
   unfolding manyBy

@@ -12,9 +12,9 @@ use lib.ListN.{take}
 use borrow.Author.Tests.{eq-eqb, eqb-true}
 use Rattle.lists.specs.Entries.{_∈_}
 use Rattle.lists.proofs.Bools.{and-both, and-make}
-use Rattle.lists.proofs.Tests.{map-ext, out-map}
+use Rattle.lists.proofs.Tests.{map-ext}
 use Rattle.word.specs.Times.{greatest, noTime, zeroIn}
-use Rattle.word.proofs.Sets.{zero-lt, zero-in}
+use Rattle.word.proofs.Sets.{zero-in}
 use Rattle.rule.specs.Net.{Net, netAt, pins}
 use Rattle.rule.specs.Rule.{netFn, value, AtRest}
 use Rattle.rule.specs.Chain.{pcSet}
@@ -22,6 +22,7 @@ use Rattle.rule.specs.Run.{made, run, ready}
 use Rattle.rule.specs.Steps.{Step, sameStep, IsStep, readAt, stepReads, stepFn, GoodOrder}
 use Rattle.rule.proofs.Chains.{set-of-gate, gate-set}
 use Rattle.rule.proofs.Values.{gate-given, read-is}
+use Rattle.rule.proofs.PinReads.{read-pin, read-below}
 use Rattle.rule.proofs.Runs.{ready-of-pairs, ready-take, take-in, reached-right, run-right}
 
 -- Names of variables
@@ -44,11 +45,9 @@ module _ (c : List Net) where
   step-time k s = gate-set c (k .net) (k .time) (s .gated) (s .element)
 
   read-earlier : (k j : Step) → IsStep c k → j ∈ stepReads c k → j .time < k .time
-  unfolding stepReads readAt
   read-earlier k j s m =
-      let r = out-map (readAt c (k .time)) (pins c (k .net)) j m in
-      let e : j .time ≡ greatest (zeroIn (pcSet c (r .0))) (k .time) noTime = ap (λ x. x .time) (r .2) in
-      omega (arith, zero-lt (pcSet c (r .0)) (k .time) noTime (step-time k s))
+      let r = read-pin c k j m in
+      omega (arith, ap (λ x. x .time) (r .2), read-below c (k .time) (r .0) (step-time k s))
 
   -- a variable that is read is there from the start or is a step's
   pub read-there : (t p : ℕ) → 0 < t → (ahead (readAt c t p) ≡ true) ⊎ IsStep c (readAt c t p)
@@ -71,13 +70,12 @@ module _ (c : List Net) where
 
   -- a good order is ready: no step is reached before what it reads is there
   pub good-ready : (ks : List Step) → GoodOrder c ks → ready sameStep (stepReads c) ahead ks ≡ true
-  unfolding stepReads
   good-ready ks good =
       ready-of-pairs sameStep (stepReads c) same-one same-self ahead ks full (λ k m r. let l = read-earlier k k (good .only k m) r in omega arith) (good .after)
     where
       full : (k j : Step) → k ∈ ks → j ∈ stepReads c k → (ahead j ≡ true) ⊎ (j ∈ ks)
       full k j m r =
-          let o = out-map (readAt c (k .time)) (pins c (k .net)) j r in
+          let o = read-pin c k j r in
           rw (o .2) (⊎-elim (λ e. inl e) (λ s. inr (good .all _ s)) (read-there (k .time) (o .0) (step-time k (good .only k m))))
 
   module _ (before new : ℕ → Bool) (calm : AtRest c before) where

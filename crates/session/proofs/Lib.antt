@@ -8,4 +8,6 @@ pub mod Refusals
 pub mod Kept
 pub mod Rules
 pub mod Sequences
+pub mod Same
+pub mod Restarts
 pub mod Witness

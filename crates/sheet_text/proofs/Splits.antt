@@ -2,10 +2,10 @@
 use mathlib.Core.Path.{_≡_, refl, sym, ap, ap₂, _∙_}
 use mathlib.Core.Bool.{false}
 use mathlib.Core.List.{List, [], _∷_, _++_, append-assoc}
-use Prim.Native.Nat.{ℕ, _+_, _/_, _%_, _≤_}
+use Prim.Native.Nat.{ℕ, _+_, _≤_}
 use native.Mathlib.Omega.{arith}
-use lib.ListN.{length, getD, take, drop, length-append, length-drop}
-use lib.Seq.{getD-drop, drop-drop, drop-append-seam, take-append-seam}
+use lib.ListN.{length, take, drop, length-append, length-drop}
+use lib.Seq.{drop-drop, drop-append-seam, take-append-seam}
 use borrow.Author.Tests.{ne-eqb, le-ltb}
 use Rattle.lists.specs.Entries.{each}
 use Rattle.rule.specs.Net.{Net}
@@ -13,8 +13,8 @@ use Rattle.rule.specs.Level.{depth}
 use Rattle.rule.specs.Steps.{stepList}
 use Rattle.card_wiring.specs.Layout.{kindOf}
 use Rattle.card_records.specs.Bytes.{u16At}
-use Rattle.card_records.specs.Written.{two, recordOf, bodyOf, netBytes, endBytes, cardBytes, Bytes}
-use Rattle.card_records.proofs.Again.{net-no-end}
+use Rattle.card_records.specs.Written.{recordOf, bodyOf, netBytes, endBytes, cardBytes, Bytes}
+use Rattle.card_records.proofs.Again.{net-no-end, two-of}
 use Rattle.card.specs.Session.{none, sessionOf}
 use Rattle.card.specs.Load.{loadOf, taken}
 use Rattle.card.specs.Allowed.{Accepted}
@@ -29,21 +29,14 @@ not-end : (w : Net) (len : ℕ) → isEnd (kindOf w) len ≡ false
 not-end w len = rw (ne-eqb (kindOf w) 4 (net-no-end w))
 
 module _ (s : List ℕ) where
-  -- two bytes, and a head, that stand at a place
-
-  two-at : (at x : ℕ) (t : List ℕ) → drop at s ≡ two x ++ t → x ≡ u16At s at
-  unfolding u16At
-  two-at at x t e =
-      let low : getD s at 0 ≡ x % 256 = ap (λ i. getD s i 0) (omega arith) ∙ sym (getD-drop at s 0 0) ∙ ap (λ l. getD l 0 0) e in
-      let high : getD s (at + 1) 0 ≡ x / 256 = sym (getD-drop at s 1 0) ∙ ap (λ l. getD l 1 0) e in
-      omega arith
+  -- a head that stands at a place
 
   module _ (at kind : ℕ) (body later : List ℕ) (e : drop at s ≡ recordOf kind body ++ later) where
     len-at : length body ≡ u16At s at
-    len-at = two-at at (length body) _ e
+    len-at = sym (two-of s at (length body) _ e)
 
     kind-at : kind ≡ u16At s (at + 2)
-    kind-at = two-at (at + 2) kind (body ++ later) (sym (drop-drop 2 at s) ∙ ap (drop 2) e)
+    kind-at = sym (two-of s (at + 2) kind (body ++ later) (sym (drop-drop 2 at s) ∙ ap (drop 2) e))
 
     inside : at + 4 ≤ length s
     inside = omega (arith, length-drop at s, ap length e)

@@ -10,17 +10,14 @@ use native.Mathlib.Numerals.{add-one}
 use native.Mathlib.Omega.{arith}
 use lib.ListN.{length, getD, take}
 use Rattle.lists.specs.Entries.{_∈_, Number}
-use Rattle.lists.specs.Listed.{listed}
-use Rattle.lists.proofs.Listed.{listed-ext}
-use Rattle.word.specs.Word.{bit, wordOf}
+use Rattle.word.specs.Word.{bit}
 use Rattle.word.specs.Times.{greatest, noTime, zeroIn}
-use Rattle.word.proofs.Words.{word-ext}
-use Rattle.word.proofs.Sets.{zero-lt}
 use Rattle.rule.specs.Net.{Net}
 use Rattle.rule.specs.Chain.{pcSet}
 use Rattle.rule.specs.Rule.{value}
 use Rattle.rule.specs.Run.{made, run}
 use Rattle.rule.specs.Steps.{Step, sameStep, IsStep, Joined, readAt, stepReads, stepFn, GoodOrder, stepList}
+use Rattle.rule.proofs.PinReads.{read-named, read-below}
 use Rattle.rule.proofs.Runs.{take-in}
 use Rattle.rule.proofs.StepRuns.{reached, left-by-first, left-history}
 use Rattle.rule.proofs.StepLists.{list-good, list-number}
@@ -28,12 +25,13 @@ use Rattle.card_wiring.specs.declared.Verdict.{Verdict}
 use Rattle.inputs.specs.Inputs.{given, vectorJudged}
 use Rattle.inputs.proofs.Verdicts.{Judging, refused, passed, judging}
 use Rattle.card.specs.declared.Session.{Session}
-use Rattle.card.specs.Session.{cardOf, resting}
+use Rattle.card.specs.Session.{cardOf}
 use Rattle.card.specs.Held.{HasCard}
 use Rattle.card.proofs.Kept.{card-fits}
-use Rattle.session.specs.Good.{histories, Rested, Good}
+use Rattle.session.specs.Good.{Rested, Good}
 use Rattle.session.specs.Moves.{moving, ends, movedBy, vectorOf}
 use Rattle.session.proofs.Moving.{ends-calm}
+use Rattle.session.proofs.Same.{moved-by-rule}
 use Rattle.step_vars.specs.Variables.{varsOf, readsIn, fnIn, historyWord, historiesFrom}
 use Rattle.step_vars.proofs.Stores.{var-net}
 use Rattle.step_list.proofs.Cards.{step-low}
@@ -96,20 +94,19 @@ module _ (s : Session) (good : Good s) (rested : s .rested ≡ true) (new : ℕ 
         ∙ left-by-first c (ends s) new (ends-calm s card calm) start (start-ahead s card calm new) ks order m k i
 
     history-is : (n t : ℕ) → n < 256 → t < 64 → bit (getD (ranAlong s new ks .words) n 0) (greatest (zeroIn (bit (getD (s .sets) n 0))) (t + 1) noTime) ≡ value c (ends s) new n t
-    unfolding readAt
     history-is n t l b =
-        let u = zero-lt (pcSet c n) (suc t) noTime (omega arith) in
+        let u = read-below c (suc t) n (omega arith) in
+        let read = read-named c (suc t) n in
         ap (bit (getD (ranAlong s new ks .words) n 0)) (set-same s card n (t + 1) l (omega arith) ∙ ap (λ d. greatest (zeroIn (pcSet c n)) d noTime) (add-one t))
         ∙ sym (var-net (ranAlong s new ks .words) n (greatest (zeroIn (pcSet c n)) (suc t) noTime) l)
-        ∙ left-same ks (order .only) (readAt c (suc t) n) (inl l, omega arith)
+        ∙ ap (varsOf (ranAlong s new ks .words)) (sym read)
+        ∙ left-same ks (order .only) (readAt c (suc t) n) (inl (omega (arith, ap (λ x. x .net) read, l)), omega (arith, u, b))
         ∙ left-history c (ends s) new (ends-calm s card calm) start (start-ahead s card calm new) ks order n t
 
     -- "the whole run ends with the rule's history"
     pub run-whole : ranSession s (ranAlong s new ks) ≡ movedBy s new
-    unfolding ranSession movedBy historiesFrom historyWord histories
-    run-whole =
-        ap (resting s (s .rested) (listed (ends s) 256))
-        (listed-ext _ (λ n. wordOf 64 (value c (ends s) new n)) 256 (λ n l. word-ext 64 _ (value c (ends s) new n) (λ t b. history-is n t l b)))
+    unfolding ranSession historiesFrom historyWord
+    run-whole = moved-by-rule s new (λ n t. bit (getD (ranAlong s new ks .words) n 0) (greatest (zeroIn (bit (getD (s .sets) n 0))) (t + 1) noTime)) history-is
 
   -- A vector by steps leaves the rule's histories,
   pub steps-rule : ranSession s (ranAlong s new (stepList c)) ≡ movedBy s new

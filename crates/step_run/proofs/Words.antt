@@ -11,18 +11,19 @@ use lib.Dec.{lit<}
 use lib.ListN.{length, getD}
 use borrow.Author.Tests.{ne-eqb}
 use Rattle.lists.specs.Entries.{_∈_}
-use Rattle.lists.proofs.Tests.{map-on, out-map}
+use Rattle.lists.proofs.Tests.{map-on}
 use Rattle.lists.proofs.Listed.{listed-at}
 use Rattle.word.specs.Word.{bit, wordOf}
 use Rattle.word.specs.Times.{greatest, noTime, zeroIn}
 use Rattle.word.proofs.Bits.{bit-none, bit-high}
 use Rattle.word.proofs.Words.{bit-word}
-use Rattle.word.proofs.Sets.{greatest-cong, zero-lt}
+use Rattle.word.proofs.Sets.{greatest-cong}
 use Rattle.gate.specs.Gate.{gate as gateFn}
 use Rattle.rule.specs.Net.{Net, openPin, openValue, atPin, netAt, pins, isSource}
 use Rattle.rule.specs.Chain.{pcSet}
 use Rattle.rule.specs.Run.{made, step, run}
 use Rattle.rule.specs.Steps.{Step, sameStep, IsStep, readAt, stepReads, stepFn}
+use Rattle.rule.proofs.PinReads.{read-named, read-below, read-pin, reads-by-pin}
 use Rattle.rule.proofs.Nets.{at-open, at-net, not-open, net-open, past-source}
 use Rattle.rule.proofs.Chains.{source-set}
 use Rattle.card_wiring.proofs.Layouts.{gate-fn}
@@ -31,8 +32,9 @@ use Rattle.card.specs.Session.{cardOf}
 use Rattle.card.specs.Held.{HasCard}
 use Rattle.card.proofs.Kept.{card-fits, card-pins, card-sets, past-sets}
 use Rattle.session.proofs.Held.{gate-type}
-use Rattle.step_vars.specs.Variables.{heldIn, varsOf, wordsOf, readIn, readsIn, fnIn, stepIn}
+use Rattle.step_vars.specs.Variables.{varsOf, wordsOf, readIn, readsIn, fnIn, stepIn}
 use Rattle.step_vars.proofs.Stores.{var-net}
+use Rattle.step_vars.proofs.Holding.{held-open}
 use Rattle.step_list.proofs.Cards.{step-low}
 use Rattle.step_run.specs.Runs.{Ran, ranFrom}
 
@@ -41,8 +43,7 @@ abbrev pub Kept : Step → Type 0
 Kept j = ((j .net < 256) ⊎ (j .net ≡ openPin)) × (j .time < 64)
 
 open-var : (words : List ℕ) (t : ℕ) → varsOf words (record { net = openPin; time = t }) ≡ openValue
-unfolding heldIn
-open-var words t = at-open openValue (λ n. bit (getD words n 0) t)
+open-var words t = held-open openValue words (record { net = openPin; time = t }) refl
 
 word-held : (f : Step → Bool) (n : ℕ) → n < 256 → getD (wordsOf f) n 0 ≡ wordOf 64 (λ t. f (record { net = n; time = t }))
 unfolding wordsOf
@@ -94,22 +95,21 @@ module _ (s : Session) (h : HasCard s) where
       at (suc u) = bit-high 1 1 (suc u) (lit< tt) (omega arith) ∙ sym (source-set c openPin u (ap isSource (net-open c)))
 
   read-same : (t p : ℕ) → t ≤ 64 → (p < 256) ⊎ (p ≡ openPin) → readIn (s .sets) t p ≡ readAt c t p
-  unfolding readIn readAt
+  unfolding readIn
   read-same t p b (inl l) =
       ap (λ w. record { net = p; time = greatest (zeroIn (bit w)) t noTime }) (at-net 1 (λ n. getD (s .sets) n 0) p (not-open p (omega arith)))
-      ∙ ap (λ u. record { net = p; time = u }) (set-same p t l b)
+      ∙ ap (λ u. record { net = p; time = u }) (set-same p t l b) ∙ sym (read-named c t p)
   read-same t p b (inr e) =
       ap (λ q. record { net = q; time = greatest (zeroIn (bit (atPin 1 (λ n. getD (s .sets) n 0) q))) t noTime }) e
       ∙ ap (λ w. record { net = openPin; time = greatest (zeroIn (bit w)) t noTime }) (at-open 1 (λ n. getD (s .sets) n 0))
       ∙ ap (λ u. record { net = openPin; time = u }) (open-set t)
-      ∙ ap (λ q. record { net = q; time = greatest (zeroIn (pcSet c q)) t noTime }) (sym e)
+      ∙ ap (λ q. record { net = q; time = greatest (zeroIn (pcSet c q)) t noTime }) (sym e) ∙ sym (read-named c t p)
 
   module _ (k : Step) (i : IsStep c k) where
     pub reads-same : reads k ≡ stepReads c k
-    unfolding stepReads
     reads-same =
         ap (λ ps. map (readIn (s .sets) (k .time)) (ps (k .net))) (card-pins s h)
-        ∙ map-on (readIn (s .sets) (k .time)) (readAt c (k .time)) (pins c (k .net)) (λ p m. read-same (k .time) p (omega (arith, step-low s h k i .2)) (named (k .net) p m))
+        ∙ reads-by-pin c k (readIn (s .sets) (k .time)) (λ p m. read-same (k .time) p (omega (arith, step-low s h k i .2)) (named (k .net) p m))
 
     fn-same : (vs : List Bool) → fn k vs ≡ stepFn c k vs
     unfolding stepFn
@@ -117,13 +117,12 @@ module _ (s : Session) (h : HasCard s) where
 
     -- what a step reads is kept
     read-kept : (j : Step) → j ∈ stepReads c k → Kept j
-    unfolding stepReads readAt
     read-kept j m =
-        let r = out-map (readAt c (k .time)) (pins c (k .net)) j m in
+        let r = read-pin c k j m in
         let low = step-low s h k i in
-        let en : j .net ≡ r .0 = ap (λ x. x .net) (r .2) in
-        let et : j .time ≡ greatest (zeroIn (pcSet c (r .0))) (k .time) noTime = ap (λ x. x .time) (r .2) in
-        (subst (λ n. (n < 256) ⊎ (n ≡ openPin)) (sym en) (named (k .net) (r .0) (r .1)), omega (arith, zero-lt (pcSet c (r .0)) (k .time) noTime (low .1), low .2))
+        let en : j .net ≡ r .0 = ap (λ x. x .net) (r .2 ∙ read-named c (k .time) (r .0)) in
+        let et = ap (λ x. x .time) (r .2) in
+        (subst (λ n. (n < 256) ⊎ (n ≡ openPin)) (sym en) (named (k .net) (r .0) (r .1)), omega (arith, et, read-below c (k .time) (r .0) (low .1), low .2))
 
     module _ (words : List ℕ) (f : Step → Bool) (same : (j : Step) → Kept j → varsOf words j ≡ f j) where
       pub made-same : made sameStep reads fn (varsOf words) k ≡ made sameStep (stepReads c) (stepFn c) f k

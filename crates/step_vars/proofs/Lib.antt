@@ -1,3 +1,4 @@
 pub mod Pins
 pub mod Stores
 pub mod Histories
+pub mod Holding

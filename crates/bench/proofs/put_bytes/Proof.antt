@@ -17,11 +17,16 @@ Inv-loop vars nets times done total room₀ e₀ room e = (e ≤ total) × (room
 abbrev μ-loop : tie.MeasureT-loop
 μ-loop vars nets times done total room₀ e₀ room e = total - e
 
+-- where the function began, seen from the loop's head
+abbrev begun : tie.At-loop Inv-loop μ-loop → tie.Start Inv-loop μ-loop
+begun l = l .before .before
+
 -- a step's net is a place of the arrays
 placed : (c : tie.After-step-byte-arg Inv-loop μ-loop) → c .before .wide16 .result < 256
 placed c =
+    let l = c .before .before .before .before in
     let e = c .before .wide16 .ensures in
-    omega (arith, c .before .before .before .before .before .before .pre .2 (c .before .before .before .before .loop .e) (omega arith))
+    omega (arith, begun l .pre .2 (l .loop .e) (omega arith))
 
 loop-holds : tie.Need-loop-holds Inv-loop μ-loop
 loop-holds c = (omega arith, filled-none _ _)
@@ -55,9 +60,10 @@ step-byte-requires c κs = search needs
 
 slice-write-room : tie.Need-slice-write-room Inv-loop μ-loop
 slice-write-room c =
-    let l = c .before .before .before .before .before .before .before .before .loop in
-    let s = c .before .before .before .before .before .before .before .before .before .before in
-    omega (arith, filled-keeps (byteIn (s .args .vars .now) (s .args .nets .now) (s .args .times .now) (s .args .done .now)) (s .args .room .now) (l .e) (l .room) (l .inv .1))
+    let head = c .before .before .before .before .before .before .before .before in
+    let l = head .loop in
+    let a = begun head .args in
+    omega (arith, filled-keeps (byteIn (a .vars .now) (a .nets .now) (a .times .now) (a .done .now)) (a .room .now) (l .e) (l .room) (l .inv .1))
 
 add-e : tie.Need-add-e Inv-loop μ-loop
 add-e c = search needs
@@ -67,18 +73,21 @@ loop-less c = search needs
 
 loop-again : tie.Need-loop-again Inv-loop μ-loop
 loop-again c =
-    let l = c .before .before .before .before .before .before .before .before .loop in
-    let s = c .before .before .before .before .before .before .before .before .before .before in
-    (omega arith, filled-turn _ (s .args .room .now) (l .e) (c .step-byte .result) (l .room) (l .inv .1) (byte-at (s .args .vars .now) (s .args .nets .now) (s .args .times .now) (s .args .done .now) (l .e) _ _ _ (c .before .before .before .before .before .wide16 .ensures) (c .before .narrow .ensures) (c .step-byte .ensures)) (omega arith))
+    let head = c .before .before .before .before .before .before .before .before in
+    let l = head .loop in
+    let a = begun head .args in
+    let byte = byte-at (a .vars .now) (a .nets .now) (a .times .now) (a .done .now) (l .e) _ _ _
+    (c .before .before .before .before .before .wide16 .ensures) (c .before .narrow .ensures) (c .step-byte .ensures) in
+    (omega arith, filled-turn _ (a .room .now) (l .e) (c .step-byte .result) (l .room) (l .inv .1) byte (omega arith))
 
 same-length : tie.Need-same-length Inv-loop μ-loop
-same-length c = filled-keeps _ (c .before .before .before .args .room .now) (c .before .loop .e) (c .before .loop .room) (c .before .loop .inv .1)
+same-length c = filled-keeps _ (begun (c .before) .args .room .now) (c .before .loop .e) (c .before .loop .room) (c .before .loop .inv .1)
 
 returns : tie.Need-returns Inv-loop μ-loop
 returns c =
-    let s = c .before .before .before in
-    let e : c .before .loop .e ≡ s .args .total = omega arith in
-    c .before .loop .inv .1 ∙ ap (λ k. filled (byteIn (s .args .vars .now) (s .args .nets .now) (s .args .times .now) (s .args .done .now)) k (s .args .room .now)) e
+    let a = begun (c .before) .args in
+    let e : c .before .loop .e ≡ a .total = omega arith in
+    c .before .loop .inv .1 ∙ ap (λ k. filled (byteIn (a .vars .now) (a .nets .now) (a .times .now) (a .done .now)) k (a .room .now)) e
 
 pub put-bytes-spec : {M : Type 1} → statement M
 put-bytes-spec =

@@ -52,11 +52,11 @@ same-length-3 c = search needs
 
 returns-3 : tie.Need-returns-3
 returns-3 c =
-    let m = c .before .before .before .before .before .before .before .before .before .before .before .before .before in
-    let e = m .before in
-    let a = e .before .before .before .before .before .args in
     let h = c .before .before .before .before .before .before .before in
     let f = h .before .before .before .before in
+    let m = f .before .before in
+    let e = m .before in
+    let a = e .before .before .before .before .before .args in
     let told = h .history .ensures ∙ ap (λ x. historyOf (x .session) (a .words .now) (a .befores .now) (a .flags .now)) (m .made-again .ensures) in
     history-shown (a .session .now) (a .words .now) (a .befores .now) (a .flags .now) (c .pack3 .result) _ (e .if1 .left)
     (sym (ap (λ x. x .whole) (m .made-again .ensures)) ∙ not-false _ (f .if2 .left))

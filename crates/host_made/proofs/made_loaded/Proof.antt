@@ -16,6 +16,14 @@ use borrow.Author.Needs.{needs}
 use Rattle.host_made.proofs.made_loaded.Statement.{statement}
 use Rattle.host_made.proofs.made_loaded.Tie as tie
 
+-- where the function began, seen from where a card is loaded
+abbrev begun : tie.After-load → tie.Start
+begun c = c .before .before .before .before
+
+-- the bytes that are loaded are the card's part
+loaded : (c : tie.After-load) → c .load .result ≡ loadOf none (part (begun c .args .b .now) cardAt (begun c .args .len))
+loaded c = rw (c .before .before .empty .ensures, part-of) at (c .load .ensures)
+
 empty-requires : tie.Need-empty-requires
 empty-requires c κs = search needs
 
@@ -46,11 +54,11 @@ enum-told-2 c = search needs
 made-card-requires : tie.Need-made-card-requires
 made-card-requires c κs =
     let r = c .before .before .before in
-    let start = r .before .before .before .before in
+    let start = begun r in
     let b = start .args .b .now in
     let card = part b cardAt (start .args .len) in
     let bytes = part-bytes b (λ i. omega (arith, r .before .before .before .shared-slice-known .given i)) cardAt (start .args .len) in
-    let e : r .load .result ≡ loadOf none card = rw (r .before .before .empty .ensures, part-of) at (r .load .ensures) in (
+    let e = loaded r in (
       (
         subst (λ x. Good (x .session)) (sym e) (load-good none card none-good bytes),
         subst (λ x. x .session .inputs ≤ 256) (sym e) (few-inputs card bytes _ (sym (ap (λ x. x .answer) e) ∙ c .enum-told2 .given .1)),
@@ -61,15 +69,15 @@ made-card-requires c κs =
 returns : tie.Need-returns
 returns c =
     let r = c .before .before .before .before in
-    let a = r .before .before .before .before .args in
-    let e : r .load .result ≡ loadOf none (part (a .b .now) cardAt (a .len)) = rw (r .before .before .empty .ensures, part-of) at (r .load .ensures) in
+    let a = begun r .args in
+    let e = loaded r in
     c .broken-session .ensures ∙ loaded-refused (a .b .now) (a .len) _ (sym (ap (λ x. x .answer) e) ∙ c .before .enum-told .given .1)
 
 returns-2 : tie.Need-returns-2
 returns-2 c =
     let r = c .before .before .before .before in
-    let a = r .before .before .before .before .args in
-    let e : r .load .result ≡ loadOf none (part (a .b .now) cardAt (a .len)) = rw (r .before .before .empty .ensures, part-of) at (r .load .ensures) in
+    let a = begun r .args in
+    let e = loaded r in
     c .made-card .ensures ∙ ap (λ x. madeCard (a .b .now) (x .session)) e
     ∙ loaded-is (a .b .now) (a .len) _ (sym (ap (λ x. x .answer) e) ∙ c .before .enum-told2 .given .1)
 

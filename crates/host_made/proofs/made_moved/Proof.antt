@@ -1,14 +1,29 @@
 -- `host_made::made_moved` meets its contract. Assumes nothing.
-use mathlib.Core.Path.{sym, ap, subst, _∙_}
+use mathlib.Core.Path.{_≡_, sym, ap, subst, _∙_}
+use mathlib.Core.Bool.{true}
 use borrow.Author.Tests.{not-true, not-false}
+use Rattle.lists.specs.Places.{part}
 use Rattle.lists.proofs.Places.{part-of}
 use Rattle.session.specs.Good.{Good}
+use Rattle.session.specs.Moves.{restOf}
 use Rattle.session.proofs.Kept.{rest-good}
-use Rattle.host_made.specs.Made.{madeBy}
+use Rattle.host_bytes.specs.Layout.{olderAt}
+use Rattle.host_made.specs.Made.{madeBy, fitting}
 use Rattle.host_made.proofs.Making.{moved-not, moved-refused, moved-is}
 use borrow.Author.Needs.{needs}
 use Rattle.host_made.proofs.made_moved.Statement.{statement}
 use Rattle.host_made.proofs.made_moved.Tie as tie
+
+-- where the function began, seen from where the card is rested
+abbrev begun : tie.After-rest → tie.Start
+begun c = c .before .before .before .before .before
+
+-- the rooms fit, and it is the older vector that it is rested by
+fits : (c : tie.After-rest) → (let a = begun c .args in fitting (a .b .now) (a .s .inputs) (a .s .inputs) ≡ true)
+fits c = let e = c .before .before in sym (e .before .rooms-fit .ensures) ∙ not-false _ (e .if1 .left)
+
+rested : (c : tie.After-rest) → (let a = begun c .args in c .rest .result ≡ restOf (a .s) (part (a .b .now) olderAt (a .s .inputs)))
+rested c = rw part-of at (c .rest .ensures)
 
 rooms-fit-requires : tie.Need-rooms-fit-requires
 rooms-fit-requires c κs = search needs
@@ -58,7 +73,7 @@ part-vector-by-end c = search needs
 vector-by-requires : tie.Need-vector-by-requires
 vector-by-requires c κs =
     let r = c .before .before .before .before in
-    let start = r .before .before .before .before .before in
+    let start = begun r in
     subst (λ x. Good (x .session)) (sym (r .rest .ensures)) (rest-good (start .args .s) (start .pre .0 .0) _)
 
 made-by-requires : tie.Need-made-by-requires
@@ -67,21 +82,15 @@ made-by-requires c κs = search needs
 returns-2 : tie.Need-returns-2
 returns-2 c =
     let r = c .before .before .before .before in
-    let e = r .before .before in
-    let a = e .before .before .before .args in
-    let fits = sym (e .before .rooms-fit .ensures) ∙ not-false _ (e .if1 .left) in
-    let rested = rw part-of at (r .rest .ensures) in
-    c .broken-session2 .ensures ∙ moved-refused (a .b .now) (a .s) (a .engine) fits (r .rest .result) rested _ (c .before .enum-told .given .1)
+    let a = begun r .args in
+    c .broken-session2 .ensures ∙ moved-refused (a .b .now) (a .s) (a .engine) (fits r) (r .rest .result) (rested r) _ (c .before .enum-told .given .1)
 
 returns-3 : tie.Need-returns-3
 returns-3 c =
     let r = c .before .before .before .before .before .before in
-    let e = r .before .before in
-    let a = e .before .before .before .args in
-    let fits = sym (e .before .rooms-fit .ensures) ∙ not-false _ (e .if1 .left) in
-    let rested = rw part-of at (r .rest .ensures) in
+    let a = begun r .args in
     c .made-by .ensures ∙ ap madeBy (rw part-of at (c .before .vector-by .ensures))
-    ∙ moved-is (a .b .now) (a .s) (a .engine) fits (r .rest .result) rested _ (c .before .before .before .enum-told2 .given .1)
+    ∙ moved-is (a .b .now) (a .s) (a .engine) (fits r) (r .rest .result) (rested r) _ (c .before .before .before .enum-told2 .given .1)
 
 pub made-moved-spec : {M : Type 1} → statement M
 made-moved-spec =

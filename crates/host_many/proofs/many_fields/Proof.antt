@@ -1,7 +1,7 @@
 -- `host_many::many_fields` meets its contract. The loop's invariant: the words are those of the session that so many vectors leave, and theirs are put. The measure is what is left
 -- of them. Assumes nothing.
 use mathlib.Core.Path.{_≡_, refl, sym, ap, subst, _∙_}
-use Prim.Native.Nat.{ℕ, _+_, _-_, _*_, _≤_, _<_}
+use Prim.Native.Nat.{_+_, _-_, _*_, _≤_}
 use native.Mathlib.Nat.{zero-mul}
 use native.Mathlib.Omega.{arith}
 use lib.ListN.{length, getD, take, drop}
@@ -63,6 +63,10 @@ bytes-are : (c : tie.In-loop Inv-loop μ-loop)
     take (x + n - x) (drop x (a .vectors .now)) ≡ part (a .vectors .now) (c .before .loop .done * n) n)
 bytes-are c = let l = c .before .loop in let a = begun c .args in place-part (l .done) (a .t1 .inputs) (l .from) (l .inv .1) (a .vectors .now)
 
+-- after the next words were made: the turn that it is
+abbrev turn : (c : tie.After-advance Inv-loop μ-loop) → tie.In-loop Inv-loop μ-loop
+turn c = c .before .before .before .before .before .before .before .before .before
+
 add-advance : tie.Need-add-advance Inv-loop μ-loop
 add-advance c = let b = bytes-there (c .before .before .before .before .before .before .before) in search needs
 
@@ -90,28 +94,28 @@ advance-requires c κs =
 
 put-words-requires : tie.Need-put-words-requires Inv-loop μ-loop
 put-words-requires c κs =
-    let i = c .before .before .before .before .before .before .before .before .before .before .before in
+    let i = turn (c .before .before) in
     (begun i .pre .1 .1 .1, subst (λ x. i .before .loop .at + begun i .args .t1 .nets ≤ x) (sym (room-long (i .before))) (words-there i))
 
--- after the words were put: the turn that it is
-abbrev turn : (c : tie.After-slice-known2 Inv-loop μ-loop) → tie.In-loop Inv-loop μ-loop
-turn c = c .before .before .before .before .before .before .before .before .before .before .before .before .before .before
+-- after the words were put: where they were made
+abbrev made : (c : tie.After-slice-known2 Inv-loop μ-loop) → tie.After-advance Inv-loop μ-loop
+made c = c .before .before .before .before .before
 
 add-done : tie.Need-add-done Inv-loop μ-loop
 add-done c = search needs
 
 add-from : tie.Need-add-from Inv-loop μ-loop
-add-from c = let b = bytes-there (turn c) in search needs
+add-from c = let b = bytes-there (turn (made c)) in search needs
 
 add-at : tie.Need-add-at Inv-loop μ-loop
-add-at c = let b = words-there (turn c) in search needs
+add-at c = let b = words-there (turn (made c)) in search needs
 
 loop-less : tie.Need-loop-less Inv-loop μ-loop
 loop-less c = search needs
 
 loop-again : tie.Need-loop-again Inv-loop μ-loop
 loop-again c =
-    let i = turn c in
+    let i = turn (made c) in
     let l = i .before .loop in
     let a = begun i in
     let s = a .args .t1 in
@@ -119,7 +123,7 @@ loop-again c =
     let room = a .args .room .now in
     let order = listed (λ k. getD (s .order) k 0) (s .gates) in
     let next =
-    c .before .before .before .before .before .advance .ensures
+    made c .advance .ensures
     ∙ ap (advanced (s .feeds) (s .types) (s .counts) (s .places) order (l .words)) (bytes-are i)
     ∙ ap (λ ws. advanced (s .feeds) (s .types) (s .counts) (s .places) order ws (part vs (l .done * s .inputs) (s .inputs))) (l .inv .3)
     ∙ next-words s (a .pre .0) (a .pre .1 .0 .0) vs room (a .pre .1 .0 .1) (l .done) (bytes-fit i) in

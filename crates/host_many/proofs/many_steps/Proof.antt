@@ -81,9 +81,12 @@ put-words-requires c κs =
     let i = c .before .before .before .before .before .before .before in
     (begun i .pre .1 .1, subst (λ x. i .before .loop .at + begun i .args .s .nets ≤ x) (sym (room-long (i .before))) (words-there i))
 
--- after the words were put: the turn that it is
+-- after the words were put: what the vector left, and the turn that it is
+abbrev left : (c : tie.After-slice-known2 Inv-loop μ-loop) → tie.After-vector-steps Inv-loop μ-loop
+left c = c .before .before .before .before .before .before .before .before
+
 abbrev turn : (c : tie.After-slice-known2 Inv-loop μ-loop) → tie.In-loop Inv-loop μ-loop
-turn c = c .before .before .before .before .before .before .before .before .before .before
+turn c = left c .before .before
 
 add-done : tie.Need-add-done Inv-loop μ-loop
 add-done c = search needs
@@ -103,8 +106,7 @@ loop-again c =
     let l = i .before .loop in
     let a = begun i .args in
     let s = a .s in
-    let left = c .before .before .before .before .before .before .before .before in
-    let next = next-is left in
+    let next = next-is (left c) in
     let more = many-more Steps s (a .vectors .now) (s .inputs) (l .done) (a .room .now) in (
       omega (arith, i .loop-test .taken),
       place-next (l .done) (s .inputs) (l .from) (l .inv .1),

@@ -21,12 +21,16 @@ Inv-loop vars₀ types counts places sets n nets times order k i₀ vars i =
 abbrev μ-loop : tie.MeasureT-loop
 μ-loop vars₀ types counts places sets n nets times order k i₀ vars i = k - i
 
+-- where the function began, seen from the loop's head
+abbrev begun : tie.At-loop Inv-loop μ-loop → tie.Start Inv-loop μ-loop
+begun l = l .before .before
+
 -- the entry that is read is a place of the list
 below : (c : tie.After-wide16 Inv-loop μ-loop) → c .wide16 .result < 4096
 below c =
-    let s = c .before .before .before .before .before in
+    let l = c .before .before .before in
     let e = c .wide16 .ensures in
-    omega (arith, s .pre .1 .1 .0 .1 (c .before .before .before .loop .i) (c .before .before .loop-test .taken))
+    omega (arith, begun l .pre .1 .1 .0 .1 (l .loop .i) (c .before .before .loop-test .taken))
 
 loop-holds : tie.Need-loop-holds Inv-loop μ-loop
 loop-holds c =
@@ -59,8 +63,9 @@ narrow-requires c κs = search needs
 
 step-requires : tie.Need-step-requires Inv-loop μ-loop
 step-requires c κs =
-    let s = c .before .before .before .before .before .before .before .before .before .before in
-    let l = c .before .before .before .before .before .before .before .before .loop in
+    let head = c .before .before .before .before .before .before .before .before in
+    let s = begun head in
+    let l = head .loop in
     let a = s .args in
     let e = c .before .before .before .before .before .wide16 .ensures in
     let g = c .before .before .wide162 in
@@ -76,9 +81,9 @@ loop-less c = search needs
 
 loop-again : tie.Need-loop-again Inv-loop μ-loop
 loop-again c =
-    let s = c .before .before .before .before .before .before .before .before .before .before .before in
-    let l = c .before .before .before .before .before .before .before .before .before .loop in
-    let a = s .args in
+    let head = c .before .before .before .before .before .before .before .before .before in
+    let l = head .loop in
+    let a = begun head .args in
     let e = c .before .before .before .before .before .before .wide16 .ensures in
     let g = c .before .before .before .wide162 in (
       omega arith,
@@ -89,7 +94,7 @@ loop-again c =
 
 returns : tie.Need-returns Inv-loop μ-loop
 returns c =
-    let a = c .before .before .before .args in
+    let a = begun (c .before) .args in
     let l = c .before .loop in
     let e : l .i ≡ a .k = omega arith in
     l .inv .2 ∙ ap (λ n. ran (a .types .now) (a .counts .now) (a .places .now) (a .sets .now) (a .vars .now) (orderedSteps (a .nets .now) (a .times .now) (a .order .now) n)) e

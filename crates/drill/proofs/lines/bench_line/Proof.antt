@@ -8,6 +8,10 @@ use borrow.Author.Needs.{needs}
 use Rattle.drill.proofs.lines.bench_line.Statement.{statement}
 use Rattle.drill.proofs.lines.bench_line.Tie as tie
 
+-- where the function began, seen from where the bytes are read
+abbrev begun : tie.After-bytes-of → tie.Start
+begun c = c .before .before .before .before
+
 bytes-of-requires : tie.Need-bytes-of-requires
 bytes-of-requires c κs = search needs
 
@@ -25,12 +29,12 @@ array-borrow-prefix-values c = search needs
 
 slice-aggregate-order-line-3 : tie.Need-slice-aggregate-order-line-3
 slice-aggregate-order-line-3 c =
-    let start = c .before .before .before .before .before .before .before .before .before in
+    let start = begun (c .before .before .before .before .before) in
     lent _ _ _ (start .pre .1 .1 .1)
 
 order-line-requires : tie.Need-order-line-requires
 order-line-requires c κs =
-    let start = c .before .before .before .before .before .before .before .before .before .before in
+    let start = begun (c .before .before .before .before .before .before) in
     (start .pre .0, (start .pre .1 .0, omega (arith, length-replicate {A = ℕ} 140001 0)))
 
 same-length : tie.Need-same-length

@@ -7,24 +7,43 @@ use borrow.Author.Needs.{needs}
 use Rattle.drill_text.proofs.lines.with_one.Statement.{statement}
 use Rattle.drill_text.proofs.lines.with_one.Tie as tie
 
+-- where the line came in, and from each name that it was not to the one ahead of it
+abbrev begun : tie.Else1 → tie.Start
+begun c = c .before .before .before .before .before
+
+abbrev at-rest : tie.Else2 → tie.Else1
+at-rest c = c .before .before .before
+
+abbrev at-vector : tie.Else3 → tie.Else2
+at-vector c = c .before .before .before
+
+abbrev at-steps : tie.Else4 → tie.Else3
+at-steps c = c .before .before .before
+
+abbrev at-records : tie.Else5 → tie.Else4
+at-records c = c .before .before .before
+
+abbrev at-net : tie.Else6 → tie.Else5
+at-net c = c .before .before .before
+
 -- the names that it was not
 
-no-load : (c : tie.Else1) → sameText (c .before .before .before .before .before .args .name .now) load ≡ false
+no-load : (c : tie.Else1) → sameText (begun c .args .name .now) load ≡ false
 no-load c = sym (c .before .same .ensures) ∙ c .if1 .left
 
-no-rest : (c : tie.Else2) → sameText (c .before .before .before .before .before .before .before .before .args .name .now) rest ≡ false
+no-rest : (c : tie.Else2) → sameText (begun (at-rest c) .args .name .now) rest ≡ false
 no-rest c = sym (c .before .same2 .ensures) ∙ c .if2 .left
 
-no-vector : (c : tie.Else3) → sameText (c .before .before .before .before .before .before .before .before .before .before .before .args .name .now) vector ≡ false
+no-vector : (c : tie.Else3) → sameText (begun (at-rest (at-vector c)) .args .name .now) vector ≡ false
 no-vector c = sym (c .before .same3 .ensures) ∙ c .if3 .left
 
-no-steps : (c : tie.Else4) → sameText (c .before .before .before .before .before .before .before .before .before .before .before .before .before .before .args .name .now) steps ≡ false
+no-steps : (c : tie.Else4) → sameText (begun (at-rest (at-vector (at-steps c))) .args .name .now) steps ≡ false
 no-steps c = sym (c .before .same4 .ensures) ∙ c .if4 .left
 
-no-records : (c : tie.Else5) → sameText (c .before .before .before .before .before .before .before .before .before .before .before .before .before .before .before .before .before .args .name .now) records ≡ false
+no-records : (c : tie.Else5) → sameText (begun (at-rest (at-vector (at-steps (at-records c)))) .args .name .now) records ≡ false
 no-records c = sym (c .before .same5 .ensures) ∙ c .if5 .left
 
-no-net : (c : tie.Else6) → sameText (c .before .before .before .before .before .before .before .before .before .before .before .before .before .before .before .before .before .before .before .before .args .name .now) net ≡ false
+no-net : (c : tie.Else6) → sameText (begun (at-rest (at-vector (at-steps (at-records (at-net c))))) .args .name .now) net ≡ false
 no-net c = sym (c .before .same6 .ensures) ∙ c .if6 .left
 
 slice-aggregate-same : tie.Need-slice-aggregate-same
@@ -64,7 +83,9 @@ if-hex-requires-3 c κs = search needs
 
 returns-3 : tie.Need-returns-3
 unfolding withOne
-returns-3 c = c .if-hex3 .ensures ∙ rw (no-load (c .before .before .before .before .before .before .before), no-rest (c .before .before .before .before), sym (c .before .before .same3 .ensures) ∙ c .before .if3 .taken)
+returns-3 c =
+    let e = c .before .before .before .before in
+    c .if-hex3 .ensures ∙ rw (no-load (at-rest e), no-rest e, sym (c .before .before .same3 .ensures) ∙ c .before .if3 .taken)
 
 slice-aggregate-same-4 : tie.Need-slice-aggregate-same-4
 slice-aggregate-same-4 c = search needs
@@ -77,7 +98,10 @@ if-hex-requires-4 c κs = search needs
 
 returns-4 : tie.Need-returns-4
 unfolding withOne
-returns-4 c = c .if-hex4 .ensures ∙ rw (no-load (c .before .before .before .before .before .before .before .before .before .before), no-rest (c .before .before .before .before .before .before .before), no-vector (c .before .before .before .before), sym (c .before .before .same4 .ensures) ∙ c .before .if4 .taken)
+returns-4 c =
+    let e = c .before .before .before .before in
+    let d = at-vector e in
+    c .if-hex4 .ensures ∙ rw (no-load (at-rest d), no-rest d, no-vector e, sym (c .before .before .same4 .ensures) ∙ c .before .if4 .taken)
 
 slice-aggregate-same-5 : tie.Need-slice-aggregate-same-5
 slice-aggregate-same-5 c = search needs
@@ -93,7 +117,12 @@ records-of-requires c κs = search needs
 
 returns-5 : tie.Need-returns-5
 unfolding withOne
-returns-5 c = c .records-of .ensures ∙ ap asRecords (c .before .room-of .ensures) ∙ rw (no-load (c .before .before .before .before .before .before .before .before .before .before .before .before .before .before), no-rest (c .before .before .before .before .before .before .before .before .before .before .before), no-vector (c .before .before .before .before .before .before .before .before), no-steps (c .before .before .before .before .before), sym (c .before .before .before .same5 .ensures) ∙ c .before .before .if5 .taken)
+returns-5 c =
+    let e = c .before .before .before .before .before in
+    let d = at-steps e in
+    let b = at-vector d in
+    c .records-of .ensures ∙ ap asRecords (c .before .room-of .ensures)
+    ∙ rw (no-load (at-rest b), no-rest b, no-vector d, no-steps e, sym (c .before .before .before .same5 .ensures) ∙ c .before .before .if5 .taken)
 
 slice-aggregate-same-6 : tie.Need-slice-aggregate-same-6
 slice-aggregate-same-6 c = search needs
@@ -109,11 +138,23 @@ net-of-requires c κs = search needs
 
 returns-6 : tie.Need-returns-6
 unfolding withOne
-returns-6 c = c .net-of .ensures ∙ ap asNet (c .before .number-of .ensures) ∙ rw (no-load (c .before .before .before .before .before .before .before .before .before .before .before .before .before .before .before .before .before), no-rest (c .before .before .before .before .before .before .before .before .before .before .before .before .before .before), no-vector (c .before .before .before .before .before .before .before .before .before .before .before), no-steps (c .before .before .before .before .before .before .before .before), no-records (c .before .before .before .before .before), sym (c .before .before .before .same6 .ensures) ∙ c .before .before .if6 .taken)
+returns-6 c =
+    let f = c .before .before .before .before .before in
+    let e = at-records f in
+    let d = at-steps e in
+    let b = at-vector d in
+    let is-net = sym (c .before .before .before .same6 .ensures) ∙ c .before .before .if6 .taken in
+    c .net-of .ensures ∙ ap asNet (c .before .number-of .ensures)
+    ∙ rw (no-load (at-rest b), no-rest b, no-vector d, no-steps e, no-records f, is-net)
 
 returns-7 : tie.Need-returns-7
 unfolding withOne
-returns-7 c = rw (no-load (c .before .before .before .before .before .before .before .before .before .before .before .before .before .before .before), no-rest (c .before .before .before .before .before .before .before .before .before .before .before .before), no-vector (c .before .before .before .before .before .before .before .before .before), no-steps (c .before .before .before .before .before .before), no-records (c .before .before .before), no-net (c))
+returns-7 c =
+    let f = at-net c in
+    let e = at-records f in
+    let d = at-steps e in
+    let b = at-vector d in
+    rw (no-load (at-rest b), no-rest b, no-vector d, no-steps e, no-records f, no-net c)
 
 pub with-one-spec : {M : Type 1} → statement M
 with-one-spec =

@@ -11,25 +11,35 @@ use borrow.Author.Needs.{needs}
 use Rattle.sheet_text.proofs.lines.put_net.Statement.{statement}
 use Rattle.sheet_text.proofs.lines.put_net.Tie as tie
 
+-- the places of the function from which what holds is taken
+abbrev at-number : tie.After-put-number → tie.Start
+at-number c = c .before .before
+
+abbrev at-before : tie.After-put-number2 → tie.After-put-number
+at-before c = c .before .before .before
+
+abbrev at-values : tie.After-put-values → tie.After-put-number2
+at-values c = c .before .before
+
 -- how far the page is filled after the number, the before value, the values
 
-first : (c : tie.After-put-number) → c .put-number .result ≤ c .before .before .args .at + 4
-first c = omega (arith, c .put-number .ensures .end-is, byte-short (c .before .before .args .net) blank (c .before .before .pre .1))
+first : (c : tie.After-put-number) → c .put-number .result ≤ at-number c .args .at + 4
+first c = omega (arith, c .put-number .ensures .end-is, byte-short (at-number c .args .net) blank (at-number c .pre .1))
 
-second : (c : tie.After-put-number2) → c .put-number2 .result ≤ c .before .before .before .before .before .args .at + 8
+second : (c : tie.After-put-number2) → c .put-number2 .result ≤ at-number (at-before c) .args .at + 8
 second c =
     omega (
       arith,
-      first (c .before .before .before),
+      first (at-before c),
       c .put-number2 .ensures .end-is,
       byte-short (c .before .wide .result) blank
           (c .before .wide .ensures .1),
     )
 
-third : (c : tie.After-put-values) → c .put-values .result ≤ c .before .before .before .before .before .before .before .args .at + 72
+third : (c : tie.After-put-values) → c .put-values .result ≤ at-number (at-before (at-values c)) .args .at + 72
 third c =
-    let a = c .before .before .before .before .before .before .before in
-    omega (arith, a .pre .0, second (c .before .before), c .put-values .ensures .end-is, values-length (a .args .word) (a .args .depth))
+    let a = at-number (at-before (at-values c)) in
+    omega (arith, a .pre .0, second (at-values c), c .put-values .ensures .end-is, values-length (a .args .word) (a .args .depth))
 
 put-number-requires : tie.Need-put-number-requires
 put-number-requires c κs = omega (arith, byte-short (c .before .args .net) blank (c .before .pre .1))
@@ -41,11 +51,7 @@ put-number-requires-2 : tie.Need-put-number-requires-2
 put-number-requires-2 c κs = omega (arith, first (c .before .before), byte-short (c .wide .result) blank (c .wide .ensures .1))
 
 put-values-requires : tie.Need-put-values-requires
-put-values-requires c κs = (
-  c .before .before .before .before .before .before .pre .0,
-  omega
-      (arith, c .before .before .before .before .before .before .pre .0, second (c .before)),
-)
+put-values-requires c κs = let a = at-number (at-before (c .before)) in (a .pre .0, omega (arith, a .pre .0, second (c .before)))
 
 put-requires : tie.Need-put-requires
 put-requires c κs = omega (arith, third (c .before))
@@ -61,19 +67,22 @@ put-number-requires-3 c κs =
 returns : tie.Need-returns
 unfolding netLine
 returns c =
-    let a = c .before .before .before .before .before .before .before .before .before .before .before .before .args in
     let last = c .before in
-    let before-is = c .before .before .before .before .before .before .before .before .wide .ensures .0 in
+    let third-at = c .before .before .before .before .before in
+    let second-at = at-values third-at in
+    let first-at = at-before second-at in
+    let a = at-number first-at .args in
+    let before-is = second-at .before .wide .ensures .0 in
     let flag-is = last .wide2 .ensures .0 in
     let line : ℕ → ℕ → List ℕ = λ x y. numbered (a .net) blank ++
     (numbered x blank ++ ((values (a .word) (a .depth) ++ (blank ∷ [])) ++ numbered y lf)) in
-    let middle = put-then (c .before .before .before .before .before .put-values .ensures) (c .before .before .before .put .ensures) in
-    let put = put-then (c .before .before .before .before .before .before .before .before .before .before .put-number .ensures)
-    (put-then (c .before .before .before .before .before .before .before .put-number2 .ensures) (put-then middle (c .put-number3 .ensures))) in
+    let middle = put-then (third-at .put-values .ensures) (c .before .before .before .put .ensures) in
+    let put = put-then (first-at .put-number .ensures)
+    (put-then (second-at .put-number2 .ensures) (put-then middle (c .put-number3 .ensures))) in
     let short = byte-short (last .wide2 .result) lf (last .wide2 .ensures .1) in (
       put-same (ap₂ line before-is flag-is) put,
       omega
-          (arith, third (c .before .before .before .before .before), c .before .before .before .put .ensures .end-is, c .put-number3 .ensures .end-is),
+          (arith, third third-at, c .before .before .before .put .ensures .end-is, c .put-number3 .ensures .end-is),
     )
 
 pub put-net-spec : {M : Type 1} → statement M

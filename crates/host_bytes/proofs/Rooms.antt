@@ -1,23 +1,23 @@
--- What stands where in the bytes that a call leaves. Assumes nothing.
-use mathlib.Core.Path.{_≡_, ap₂, subst, _∙_}
+-- What stands where in the bytes that an operation leaves. Assumes nothing.
+use mathlib.Core.Path.{_≡_, refl, sym, subst, _∙_}
 use mathlib.Core.Bool.{true}
 use mathlib.Core.List.{List, [], _∷_}
 use mathlib.Core.Logic.{_⊎_, inl, inr}
-use Prim.Native.Nat.{ℕ, zero, suc, _+_, _-_, _*_, _/_, _%_, _≤_, _<_}
+use Prim.Native.Nat.{ℕ, zero, suc, _+_, _-_, _/_, _%_, _≤_, _<_}
 use native.Mathlib.Omega.{arith}
 use native.Mathlib.Decide.{decLt}
 use lib.Dec.{lit<, lit≤}
 use lib.ListN.{length, getD, List·getD-eq-default}
 use lib.Seq.{ext-getD}
 use Rattle.lists.specs.Places.{part, clear, area}
-use Rattle.lists.proofs.Bools.{and-both, and-make}
 use Rattle.lists.proofs.Places.{clear-at, clear-make, clear-from, length-area, area-in, area-out, area-from, part-same, part-whole}
 use Rattle.card_records.specs.Bytes.{u16At}
 use Rattle.card_records.specs.Written.{Bytes}
+use Rattle.card_records.proofs.TwoBytes.{u16-of, u16-same}
+use Rattle.operations.specs.declared.Engine.{Engine}
 use Rattle.host_bytes.specs.Layout.{olderAt, lastAt, cardAt, longestCard, cardTo, sessionLength}
-use Rattle.host_bytes.specs.Kept.{lastRoom, keptCard}
+use Rattle.host_bytes.specs.Kept.{lastRoom, markOf, keptCard, keptRest, keptVector}
 use Rattle.host_bytes.proofs.Bytes.{area-bytes, room-at, one-byte, zero-byte}
-use Rattle.host_made.specs.Made.{fitting}
 
 -- A card that was just loaded
 
@@ -85,19 +85,9 @@ module _ (b v : List ℕ) (long : sessionLength ≤ length b) where
   pub card-state : getD (keptCard b v) 0 0 ≡ 1
   card-state = card-head 0 (lit< tt)
 
-  pub card-fitting : fitting (keptCard b v) 0 0 ≡ true
-  card-fitting =
-      and-make _ _
-      (clear-make (keptCard b v) olderAt lastAt (λ i l u. card-none i l (omega arith)))
-      (clear-make (keptCard b v) lastAt cardAt (λ i l u. card-none i (omega arith) u))
-
   module _ (fits : length v ≤ longestCard) where
     pub card-length : u16At (keptCard b v) 1 ≡ length v
-    unfolding u16At
-    card-length =
-        let x : getD (keptCard b v) 1 0 ≡ length v % 256 = card-head 1 (lit< tt) in
-        let y : getD (keptCard b v) 2 0 ≡ length v / 256 % 256 = card-head 2 (lit< tt) in
-        omega arith
+    card-length = u16-of (keptCard b v) 1 (length v) (omega arith) (card-head 1 (lit< tt)) (card-head 2 (lit< tt))
 
     pub card-clear : clear (keptCard b v) (cardAt + length v) cardTo ≡ true
     card-clear = clear-from (keptCard b v) cardAt (length v) cardTo (λ i l u. card-at i u ∙ List·getD-eq-default v 0 {n = i} l)
@@ -148,8 +138,7 @@ module _ (b : List ℕ) (k : ℕ) (o v : List ℕ) where
     kept-at i o l u = outside i o u ∙ area-out b 0 1 (k ∷ []) i (inr l) u
 
     pub rooms-length : u16At rooms 1 ≡ u16At b 1
-    unfolding u16At
-    rooms-length = ap₂ (λ p q. p + 256 * q) (kept-at 1 (inl (lit< tt)) (lit< tt) (omega arith)) (kept-at 2 (inl (lit< tt)) (lit< tt) (omega arith))
+    rooms-length = u16-same rooms 1 b (kept-at 1 (inl (lit< tt)) (lit< tt) (omega arith)) (kept-at 2 (inl (lit< tt)) (lit< tt) (omega arith))
 
     pub rooms-clear : (at : ℕ) → cardAt ≤ at → clear b at cardTo ≡ true → clear rooms at cardTo ≡ true
     rooms-clear at f e = clear-make rooms at cardTo (λ i l u. kept-at i (inr (omega arith)) (omega arith) (omega arith) ∙ clear-at b at cardTo e i l u)
@@ -168,15 +157,18 @@ module _ (b : List ℕ) (k : ℕ) (o v : List ℕ) where
     pub rooms-last : (i : ℕ) → i < 256 → getD rooms (lastAt + i) 0 ≡ getD v i 0
     rooms-last i l = let e = older-long in area-from older lastAt cardAt v i (omega arith) (omega arith)
 
-    pub rooms-fit : (m n : ℕ) → ((i : ℕ) → m ≤ i → i < 256 → getD o i 0 ≡ 0) → ((i : ℕ) → n ≤ i → i < 256 → getD v i 0 ≡ 0) → fitting rooms m n ≡ true
-    rooms-fit m n p q =
-        and-make _ _
-        (clear-from rooms olderAt m lastAt (λ i l u. rooms-older i (omega arith) ∙ p i l (omega arith)))
-        (clear-from rooms lastAt n cardAt (λ i l u. rooms-last i (omega arith) ∙ q i l (omega arith)))
-
     -- the last room's part is the vector
     pub rooms-given : length v ≤ 256 → part rooms lastAt (length v) ≡ v
     rooms-given f = let r = rooms-long in part-whole rooms v lastAt (omega arith) (λ i l. rooms-last i (omega arith))
+
+-- what is kept of a rest and of a vector, in these words
+pub rest-rooms : (b v : List ℕ) → keptRest b v ≡ rooms b 2 (0 ∷ []) v
+unfolding keptRest
+rest-rooms b v = refl
+
+pub vector-rooms : (engine : Engine) (b v : List ℕ) → keptVector engine b v ≡ rooms b (markOf engine) (lastRoom b) v
+unfolding keptVector
+vector-rooms engine b v = refl
 
 -- where the last vector goes when another one comes
 pub room-moved : (b : List ℕ) (k : ℕ) (v : List ℕ) → sessionLength ≤ length b → (n : ℕ) → n ≤ 256 → part (rooms b k (lastRoom b) v) olderAt n ≡ part b lastAt n
@@ -184,15 +176,6 @@ room-moved b k v long n f =
     let r = rooms-long b k (lastRoom b) v long in
     part-same (rooms b k (lastRoom b) v) b olderAt lastAt n (omega arith) (omega arith)
     (λ i l. rooms-older b k (lastRoom b) v long i (omega arith) ∙ room-at b i (omega arith))
-
--- the rooms hold so many bytes, and 0 past them
-pub fitting-none : (b : List ℕ) (m n : ℕ) → fitting b m n ≡ true
-    → ((i : ℕ) → m ≤ i → i < 256 → getD b (olderAt + i) 0 ≡ 0) × ((i : ℕ) → n ≤ i → i < 256 → getD b (lastAt + i) 0 ≡ 0)
-fitting-none b m n f =
-    let both = and-both (clear b (olderAt + m) lastAt) (clear b (lastAt + n) cardAt) f in (
-      λ i l u. clear-at b (olderAt + m) lastAt (both .0) (olderAt + i) (omega arith) (omega arith),
-      λ i l u. clear-at b (lastAt + n) cardAt (both .1) (lastAt + i) (omega arith) (omega arith),
-    )
 
 -- the same where the card stands, and past all that is kept
 abbrev pub Elsewhere : List ℕ → List ℕ → Type 0
@@ -212,3 +195,63 @@ same-bytes x b e z p q r = ext-getD 0 x b e (λ i l. at i (omega arith) (decLt i
     at i l (no a) (no c) (yes d) f = by olderAt i (omega arith) (p (i - olderAt) (omega arith))
     at i l (no a) (no c) (no d) (yes f) = by lastAt i (omega arith) (q (i - lastAt) (omega arith))
     at i l (no a) (no c) (no d) (no f) = r i (inr (omega arith)) (omega arith) l
+
+-- What vectors keep, one after another
+
+module _ (engine : Engine) where
+  abbrev k : ℕ
+  k = markOf engine
+
+  pub length-kept : (b v : List ℕ) → length (keptVector engine b v) ≡ length b
+  unfolding keptVector
+  length-kept b v = length-rooms b k (lastRoom b) v
+
+  -- after two vectors the bytes have both, and else what they had
+  module _ (b u w : List ℕ) (long : sessionLength ≤ length b) where
+    abbrev one : List ℕ
+    one = rooms b k (lastRoom b) u
+
+    abbrev two : List ℕ
+    two = rooms one k (lastRoom one) w
+
+    one-long : sessionLength ≤ length one
+    one-long = omega (arith, length-rooms b k (lastRoom b) u, long)
+
+    two-older : (i : ℕ) → i < 256 → getD two (olderAt + i) 0 ≡ getD u i 0
+    two-older i l = rooms-older one k (lastRoom one) w one-long i l ∙ room-at one i l ∙ rooms-last b k (lastRoom b) u long i l
+
+    two-else : Elsewhere two b
+    two-else i o p q =
+        kept-at one k (lastRoom one) w one-long i o p (omega (arith, length-rooms b k (lastRoom b) u, q)) ∙ kept-at b k (lastRoom b) u long i o p q
+
+  -- so of three vectors the first is forgotten
+  pub kept-forgets : (b x u w : List ℕ) → sessionLength ≤ length b
+      → keptVector engine (keptVector engine (keptVector engine b x) u) w ≡ keptVector engine (keptVector engine b u) w
+  unfolding keptVector
+  kept-forgets b x u w long =
+      same-bytes (two a u w more) (two b u w long) size
+      (rooms-state (one a u w more) k (lastRoom (one a u w more)) w (one-long a u w more)
+      ∙ sym (rooms-state (one b u w long) k (lastRoom (one b u w long)) w (one-long b u w long)))
+      (λ i l. two-older a u w more i l ∙ sym (two-older b u w long i l))
+      (λ i l. rooms-last (one a u w more) k (lastRoom (one a u w more)) w (one-long a u w more) i l
+      ∙ sym (rooms-last (one b u w long) k (lastRoom (one b u w long)) w (one-long b u w long) i l))
+      (λ i o p q. two-else a u w more i o p (omega (arith, same-two, same-a, q)) ∙ kept-at b k (lastRoom b) x long i o p (omega (arith, same-two, q))
+      ∙ sym (two-else b u w long i o p (omega (arith, same-two, q))))
+    where
+      a : List ℕ
+      a = rooms b k (lastRoom b) x
+
+      same-a : length a ≡ length b
+      same-a = length-rooms b k (lastRoom b) x
+
+      more : sessionLength ≤ length a
+      more = omega (arith, same-a, long)
+
+      both : (y : List ℕ) (l : sessionLength ≤ length y) → length (two y u w l) ≡ length y
+      both y l = length-rooms (one y u w l) k (lastRoom (one y u w l)) w ∙ length-rooms y k (lastRoom y) u
+
+      same-two : length (two b u w long) ≡ length b
+      same-two = both b long
+
+      size : length (two a u w more) ≡ length (two b u w long)
+      size = both a more ∙ same-a ∙ sym same-two
