@@ -52,21 +52,6 @@ session-holds c a =
     let e = session-card c a in
     record { accepted = rw e a; laid = rw e refl }
 
--- a card just loaded is not yet rested
-pub session-fresh : (c : List CardNet) → (sessionOf c .loaded ≡ true) × (sessionOf c .rested ≡ false)
-unfolding sessionOf
-session-fresh c = (refl, refl)
-
--- how many inputs and gates it has
-pub session-sizes : (c : List CardNet) → (sessionOf c .inputs ≡ inputsOf c) × (sessionOf c .gates ≡ length (gateOrder c))
-unfolding sessionOf
-session-sizes c = (refl, refl)
-
--- another rest is of the same card
-pub resting-card : (s : Session) (rested : Bool) (before : List Bool) (words : List ℕ) → cardOf (resting s rested before words) ≡ cardOf s
-unfolding cardOf
-resting-card s rested before words = refl
-
 pub resting-holds : (s : Session) (rested : Bool) (before : List Bool) (words : List ℕ) → HasCard s → HasCard (resting s rested before words)
 unfolding cardOf
 resting-holds s rested before words h = record { accepted = h .accepted; laid = ap (λ x. resting x rested before words) (h .laid) }

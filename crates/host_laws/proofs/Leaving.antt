@@ -18,7 +18,7 @@ use Rattle.card.specs.Allowed.{Allowed}
 use Rattle.card.proofs.Kept.{session-holds}
 use Rattle.card.proofs.Sessions.{none-loaded, none-rested, taken-unrested, inputs-few}
 use Rattle.session.specs.Moves.{movedBy, restedBy}
-use Rattle.session.proofs.Same.{Same, rest-afresh}
+use Rattle.session.proofs.SameCard.{SameCard, rest-afresh}
 use Rattle.session.proofs.Restarts.{moved-again}
 use Rattle.operations.specs.declared.Engine.{Engine}
 use Rattle.host_bytes.specs.Layout.{olderAt, lastAt, cardAt, longestCard, cardTo, sessionLength}
@@ -99,12 +99,12 @@ module _ (b v : List ℕ) (long : sessionLength ≤ length b) (bytes : Bytes b) 
 
   -- whatever the session was
 
-  rested-anew : (c : List Net) → Carried b c → (r : Bool) (s : Session) → Same (sessionOf c) r s → Vector (s .inputs) v
+  rested-anew : (c : List Net) → Carried b c → (r : Bool) (s : Session) → SameCard (sessionOf c) r s → Vector (s .inputs) v
       → Kept (rooms b 2 (0 ∷ []) v) (restedBy s (given (s .kinds) v))
   rested-anew c d r s e w =
       subst (Kept (rooms b 2 (0 ∷ []) v))
-      (sym (rest-afresh (sessionOf c) r s e (given (s .kinds) v) ∙ ap (λ x. restedBy (sessionOf c) (given (x .kinds) v)) e))
-      (rested-kept c d (subst (λ x. Vector (x .inputs) v) e w))
+      (sym (rest-afresh (sessionOf c) r s e (given (s .kinds) v) ∙ ap (λ x. restedBy (sessionOf c) (given (x .kinds) v)) (e .card)))
+      (rested-kept c d (subst (λ x. Vector (x .inputs) v) (e .card) w))
 
   rest-kept : (s : Session) → Kept b s → s .loaded ≡ true → Vector (s .inputs) v → Kept (rooms b 2 (0 ∷ []) v) (restedBy s (given (s .kinds) v))
   rest-kept s (keeps-none z e) l w = absurd (false≢true (sym none-loaded ∙ l))
@@ -118,15 +118,15 @@ module _ (b v : List ℕ) (long : sessionLength ≤ length b) (bytes : Bytes b) 
   vector-kept engine s (keeps-rest c d z f u) l w =
       let last = part b lastAt (inputs c) in
       subst (Kept (rooms b (markOf engine) (lastRoom b) v)) (sym (both-same c last v))
-      (moved-kept c d (subst (λ x. Vector (x .inputs) v) (rest-same c last) w) engine (fitting-none b 0 (inputs c) f .1) u)
+      (moved-kept c d (subst (λ x. Vector (x .inputs) v) (rest-same c last .card) w) engine (fitting-none b 0 (inputs c) f .1) u)
   vector-kept engine s (keeps-moved e c d z f u t) l w =
       let o = part b olderAt (inputs c) in
       let last = part b lastAt (inputs c) in
       let same = both-keeps c o last in
       subst (Kept (rooms b (markOf engine) (lastRoom b) v))
-      (sym (ap (λ x. movedBy s (given (x .kinds) v)) same
+      (sym (ap (λ x. movedBy s (given (x .kinds) v)) (same .card)
       ∙ moved-again (sessionOf c) (session-holds c (d .accepted)) (values c o) (values c last) (values c v)))
-      (moved-kept c d (subst (λ x. Vector (x .inputs) v) same w) engine (fitting-none b (inputs c) (inputs c) f .1) t)
+      (moved-kept c d (subst (λ x. Vector (x .inputs) v) (same .card) w) engine (fitting-none b (inputs c) (inputs c) f .1) t)
 
   pub rest-holds : (s : Session) → Kept b s → s .loaded ≡ true → Vector (s .inputs) v → Holding (keptRest b v) (restedBy s (given (s .kinds) v))
   rest-holds s k l w =

@@ -27,7 +27,7 @@ use Rattle.session.specs.declared.Moved.{Moved}
 use Rattle.session.specs.Good.{Good}
 use Rattle.session.specs.Moves.{movedBy, restedBy, restOf}
 use Rattle.session.proofs.Kept.{taken-good, rested-good}
-use Rattle.session.proofs.Same.{Same, rested-same, moved-same}
+use Rattle.session.proofs.SameCard.{SameCard, same-self, rested-same, moved-same}
 use Rattle.session.proofs.Refusals.{Ruling, refuses, takes, rest-ruled, rest-takes}
 use Rattle.operations.specs.declared.Engine.{Engine}
 use Rattle.operations.specs.declared.Engine.the-variants.{Fields, Steps}
@@ -77,27 +77,27 @@ pub data Kept (b : List ℕ) : Session → Type 0 where
 pub rest-taken : (c : List Net) (v : List ℕ) → Vector (inputs c) v → restOf (sessionOf c) v ≡ record { answer = Done 0; session = atRest c v }
 rest-taken c v w = rest-takes (sessionOf c) v (taken-loaded c) w
 
-pub rest-same : (c : List Net) (v : List ℕ) → Same (sessionOf c) true (atRest c v)
-rest-same c v = rested-same (sessionOf c) (sessionOf c .rested) (sessionOf c) refl (values c v)
+pub rest-same : (c : List Net) (v : List ℕ) → SameCard (sessionOf c) true (atRest c v)
+rest-same c v = rested-same (sessionOf c) (sessionOf c .rested) (sessionOf c) (same-self (sessionOf c)) (values c v)
 
 pub rest-good : (c : List Net) (v : List ℕ) → Accepted c → Good (atRest c v)
 rest-good c v a = rested-good (sessionOf c) (taken-good c a) (taken-loaded c) (values c v)
 
 -- a vector fits it at rest as it fits the card just loaded
 rest-fits : (c : List Net) (v w : List ℕ) → Vector (inputs c) w → Vector (atRest c v .inputs) w
-rest-fits c v w h = subst (λ s. Vector (s .inputs) w) (sym (rest-same c v)) h
+rest-fits c v w h = subst (λ s. Vector (s .inputs) w) (sym (rest-same c v .card)) h
 
 -- and the next vector gives its nets the same values
 pub both-same : (c : List Net) (v w : List ℕ) → movedBy (atRest c v) (given (atRest c v .kinds) w) ≡ afterBoth c v w
-both-same c v w = ap (λ s. movedBy (atRest c v) (given (s .kinds) w)) (rest-same c v)
+both-same c v w = ap (λ s. movedBy (atRest c v) (given (s .kinds) w)) (rest-same c v .card)
 
-pub both-keeps : (c : List Net) (v w : List ℕ) → Same (sessionOf c) true (afterBoth c v w)
+pub both-keeps : (c : List Net) (v w : List ℕ) → SameCard (sessionOf c) true (afterBoth c v w)
 both-keeps c v w = moved-same (sessionOf c) true (atRest c v) (rest-same c v) (values c w)
 
 pub both-taken : (e : Engine) (c : List Net) (v w : List ℕ) → Accepted c → Vector (inputs c) w
     → vectorBy e (atRest c v) w ≡ record { answer = Done (countBy e (atRest c v)); session = afterBoth c v w }
 both-taken e c v w a h =
-    by-takes e (atRest c v) (rest-good c v a) (ap (λ s. s .rested) (rest-same c v)) w (rest-fits c v w h)
+    by-takes e (atRest c v) (rest-good c v a) (rest-same c v .rests) w (rest-fits c v w h)
     ∙ ap (λ s. record { answer = Done (countBy e (atRest c v)); session = s }) (both-same c v w)
 
 -- a card that a vector moved is some card
@@ -185,7 +185,7 @@ module _ (b : List ℕ) (h : Bytes b) where
             → Opens (whenDone (m .answer) (held (m .session)))
         last f w m (refuses r g) = opens-not
         last f w m (takes l u) =
-            inr (subst (Kept b) (sym (both-same c o v)) (keeps-moved e c k z f w (subst (λ s. Vector (s .inputs) v) (rest-same c o) u)))
+            inr (subst (Kept b) (sym (both-same c o v)) (keeps-moved e c k z f w (subst (λ s. Vector (s .inputs) v) (rest-same c o .card) u)))
 
         by : fitting b (inputs c) (inputs c) ≡ true → (m : Moved) → Ruling (sessionOf c .loaded) (sessionOf c) o 0 (atRest c o) m
             → Opens (whenDone (m .answer) (madeBy (vectorBy e (m .session) v)))

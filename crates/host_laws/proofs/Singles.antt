@@ -193,8 +193,8 @@ module _ (engine : Engine) (b vs room : List ℕ) (s : Session) (h : Holding b s
       × (bytesAfter b (eachVector engine vs (s .inputs) j) ≡ keptEach engine b vs (s .inputs) j) × (t .rested ≡ true) × (t .nets ≡ s .nets)) (run-session engine vs (s .inputs) s room j) (
         subst (λ x. Holding x (manyBy engine s vs (s .inputs) j room .session)) (sym (each .1)) (each .0),
         each .1,
-        ap (λ t. t .rested) (left .same),
-        ap (λ t. t .nets) (left .same),
+        left .same .rests,
+        ap (λ t. t .nets) (left .same .card),
       )
     where
       j-fits : j * s .inputs ≤ length vs

@@ -2,7 +2,7 @@
 use mathlib.Core.Path.{_≡_, refl, sym, ap, ap₂, _∙_, subst}
 use mathlib.Core.Bool.{Bool, true, false, cond}
 use mathlib.Core.List.{List}
-use Prim.Native.Nat.{ℕ, zero, suc, _+_, _-_, _*_, _/_, _%_, _<_, _≤_}
+use Prim.Native.Nat.{ℕ, zero, suc, _+_, _*_, _/_, _%_, _<_, _≤_}
 use native.Mathlib.Nat.{le-div-iff-mul-le, div-lt-iff-lt-mul}
 use native.Mathlib.Omega.{arith}
 use lib.Dec.{eqb, leb}
@@ -23,11 +23,10 @@ use Rattle.inputs.specs.Allowed.{byteLimit, Vector}
 use Rattle.inputs.specs.Inputs.{byteFits, given}
 use Rattle.fields.specs.Inner.Fields.{advanced}
 use Rattle.card.specs.declared.Session.{Session}
-use Rattle.card.specs.Session.{resting}
 use Rattle.session.specs.Good.{Good}
 use Rattle.session.specs.Moves.{movedBy, vectorOf}
 use Rattle.session.proofs.Moving.{words-long, words-move}
-use Rattle.session.proofs.Same.{Same, same-card, moved-same}
+use Rattle.session.proofs.SameCard.{SameCard, same-card, moved-same}
 use Rattle.session.proofs.Refusals.{vector-takes}
 use Rattle.operations.specs.declared.Engine.{Engine}
 use Rattle.operations.specs.declared.Engine.the-variants.{Fields, Steps}
@@ -89,24 +88,24 @@ module _ (engine : Engine) (s : Session) (g : Good s) (r : s .rested ≡ true) (
 
   pub record Left (z : Session) : Type 0 where
     pub good : Good z
-    pub same : Same s true z
+    pub same : SameCard s true z
 
   -- a session so left takes a vector that fits
   left-takes : (z : Session) → Left z → (v : List ℕ) → Vector (s .inputs) v
       → vectorBy engine z v ≡ record { answer = Done (countBy engine z); session = movedBy z (given (z .kinds) v) }
-  left-takes z h v w = by-takes engine z (h .good) (ap (λ x. x .rested) (h .same)) v (subst (λ x. Vector (x .inputs) v) (sym (h .same)) w)
+  left-takes z h v w = by-takes engine z (h .good) (h .same .rests) v (subst (λ x. Vector (x .inputs) v) (sym (h .same .card)) w)
 
   next-left : (z : Session) → Left z → (v : List ℕ) → Vector (s .inputs) v → Left (vectorBy engine z v .session)
   next-left z h v w =
       let e = ap (λ x. x .session) (left-takes z h v w) in
-      record { good = by-good engine z (h .good) v; same = subst (Same s true) (sym e) (moved-same s true z (h .same) (given (z .kinds) v)) }
+      record { good = by-good engine z (h .good) v; same = subst (SameCard s true) (sym e) (moved-same s true z (h .same) (given (z .kinds) v)) }
 
   next-fits : (j : ℕ) → suc j * s .inputs ≤ length vs → j * s .inputs + s .inputs ≤ length vs
   next-fits j l = let e : j + 1 ≡ suc j = omega arith in omega (arith, turn-next j (s .inputs), ap (λ k. k * s .inputs) e, l)
 
   pub many-left : (j : ℕ) → j * s .inputs ≤ length vs → Left (left j)
   unfolding manyBy
-  many-left zero l = record { good = g; same = ap (λ b. resting s b (s .before) (s .words)) r }
+  many-left zero l = record { good = g; same = record { rests = r; card = refl } }
   many-left (suc j) l =
       let l′ = next-fits j l in
       next-left (left j) (many-left j (omega (arith, l′))) (bytes j) (many-vector vs (s .inputs) j fits l′)
@@ -114,7 +113,7 @@ module _ (engine : Engine) (s : Session) (g : Good s) (r : s .rested ≡ true) (
   pub left-long : (j : ℕ) → j * s .inputs ≤ length vs → length (left j .words) ≡ 256
   left-long j l =
       let g = many-left j l .good in
-      let held = g .rest (ap (λ x. x .rested) (many-left j l .same)) in
+      let held = g .rest (many-left j l .same .rests) in
       words-long (left j) (g .card (held .0)) (held .1)
 
   -- each vector is done, with the count that the card has by the engine
@@ -157,10 +156,10 @@ module _ (s : Session) (g : Good s) (r : s .rested ≡ true) (vs room : List ℕ
       let h = many-left Fields s g r vs room fits j (omega (arith, l)) in
       let z = manyBy Fields s vs (s .inputs) j room .session in
       let v = part vs (j * s .inputs) (s .inputs) in
-      let rested : z .rested ≡ true = ap (λ x. x .rested) (h .same) in
-      let w : Vector (z .inputs) v = subst (λ x. Vector (x .inputs) v) (sym (h .same)) (many-vector vs (s .inputs) j fits l) in
+      let rested : z .rested ≡ true = h .same .rests in
+      let w : Vector (z .inputs) v = subst (λ x. Vector (x .inputs) v) (sym (h .same .card)) (many-vector vs (s .inputs) j fits l) in
       let held = h .good .rest rested in
-      sym (ap (λ x. advanced (x .feeds) (x .types) (x .counts) (x .places) (listed (λ i. getD (x .order) i 0) (x .gates)) (z .words) v) (h .same))
+      sym (ap (λ x. advanced (x .feeds) (x .types) (x .counts) (x .places) (listed (λ i. getD (x .order) i 0) (x .gates)) (z .words) v) (h .same .card))
       ∙ words-move z (h .good .card (held .0)) (held .1) v (w .size)
       ∙ sym (ap (λ x. x .session .words) (vector-takes z v rested w))
 

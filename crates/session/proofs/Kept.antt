@@ -15,7 +15,8 @@ use Rattle.card.specs.declared.Loaded.{Loaded}
 use Rattle.card.specs.Session.{none, sessionOf, cardOf}
 use Rattle.card.specs.Load.{loadOf}
 use Rattle.card.specs.Allowed.{Accepted}
-use Rattle.card.proofs.Kept.{none-carded, session-holds, session-fresh, resting-card, resting-holds}
+use Rattle.card.proofs.Sessions.{taken-unrested, resting-card}
+use Rattle.card.proofs.Kept.{none-carded, session-holds, resting-holds}
 use Rattle.card.proofs.Verdicts.{Ruling as LoadRuling, refuses as load-refuses, takes as load-takes, ruled as load-ruled, load-carded}
 use Rattle.session.specs.declared.Moved.{Moved}
 use Rattle.session.specs.Good.{histories, Rested, Good}
@@ -34,11 +35,11 @@ load-good old s g bytes = record { card = load-carded old s bytes (g .card); res
   where
     go : (x : Loaded) → LoadRuling old s x → x .session .rested ≡ true → (x .session .loaded ≡ true) × Rested (x .session)
     go x (load-refuses r w) e = g .rest e
-    go x (load-takes a) e = absurd (false≢true (sym (session-fresh (a .card) .1) ∙ e))
+    go x (load-takes a) e = absurd (false≢true (sym (taken-unrested (a .card)) ∙ e))
 
 -- a card that load takes
 pub taken-good : (c : List Net) → Accepted c → Good (sessionOf c)
-taken-good c a = record { card = λ l. session-holds c a; rest = λ e. absurd (false≢true (sym (session-fresh c .1) ∙ e)) }
+taken-good c a = record { card = λ l. session-holds c a; rest = λ e. absurd (false≢true (sym (taken-unrested c) ∙ e)) }
 
 -- a vector and a rest move the session to another rest of the same card
 pub moved-card : (s : Session) (new : ℕ → Bool) → cardOf (movedBy s new) ≡ cardOf s

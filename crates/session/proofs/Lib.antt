@@ -8,6 +8,6 @@ pub mod Refusals
 pub mod Kept
 pub mod Rules
 pub mod Sequences
-pub mod Same
+pub mod SameCard
 pub mod Restarts
 pub mod Witness

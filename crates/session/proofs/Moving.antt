@@ -1,13 +1,13 @@
 -- A vector by fields moves a session as the rule says: from the last vector's end, and to a session of the same kind. Assumes nothing.
 use mathlib.Core.Path.{_≡_, refl, sym, ap, ap₂, _∙_}
-use mathlib.Core.Bool.{Bool, false}
+use mathlib.Core.Bool.{Bool}
 use mathlib.Core.List.{List}
 use Prim.Native.Nat.{ℕ, _<_}
 use native.Mathlib.Omega.{arith}
 use lib.Dec.{lit<}
 use lib.ListN.{length, getD}
 use Rattle.lists.specs.Listed.{listed}
-use Rattle.lists.proofs.Listed.{length-listed, listed-at}
+use Rattle.lists.proofs.Listed.{length-listed, listed-at, listed-ext}
 use Rattle.word.specs.Word.{bit, wordOf}
 use Rattle.word.proofs.Words.{bit-word, word-ext}
 use Rattle.rule.specs.Net.{Net, constant, netAt}
@@ -71,3 +71,19 @@ module _ (s : Session) (h : HasCard s) (r : Rested s) where
       → resting s (s .rested) b words ≡ movedBy s (given (s .kinds) v)
   unfolding movedBy ends
   fields-move v size b words eb ew = ap₂ (resting s (s .rested)) eb (ew ∙ words-move v size)
+
+-- What the code leaves, in the words of a vector's move
+
+-- the tops of the words are the values at 63
+pub tops-ends : (s : Session) (before : List Bool) → before ≡ topsOf (s .words) → before ≡ listed (ends s) 256
+unfolding ends
+tops-ends s before e = e
+
+-- words that have the rule's bits are those that a vector leaves
+pub moved-by-rule : (s : Session) (new : ℕ → Bool) (f : ℕ → ℕ → Bool) → ((n t : ℕ) → n < 256 → t < 64 → f n t ≡ value (cardOf s) (ends s) new n t)
+    → resting s (s .rested) (listed (ends s) 256) (listed (λ n. wordOf 64 (f n)) 256) ≡ movedBy s new
+unfolding movedBy histories
+moved-by-rule s new f is =
+    ap (resting s (s .rested) (listed (ends s) 256))
+    (listed-ext (λ n. wordOf 64 (f n)) (λ n. wordOf 64 (value (cardOf s) (ends s) new n)) 256
+    (λ n l. word-ext 64 (f n) (value (cardOf s) (ends s) new n) (λ t b. is n t l b)))

@@ -17,7 +17,7 @@ use Rattle.session.specs.Good.{histories}
 use Rattle.session.specs.Moves.{ends, movedBy, settled, restedBy}
 use Rattle.session.proofs.Moving.{history-at}
 use Rattle.session.proofs.Settling.{settled-from}
-use Rattle.session.proofs.Same.{Same, same-card, rested-same, moved-same}
+use Rattle.session.proofs.SameCard.{SameCard, same-self, same-card, rested-same, moved-same}
 
 module _ (s : Session) (h : HasCard s) (x y : ℕ → Bool) where
   flat-ends : (n : ℕ) → n < 256 → ends (restedBy s y) n ≡ settled (cardOf s) y n
@@ -29,8 +29,8 @@ module _ (s : Session) (h : HasCard s) (x y : ℕ → Bool) where
   unfolding ends restedBy
   flat-past n l = ap (λ w. bit w 63) (listed-past (λ n. wordOf 64 (λ t. settled (cardOf s) y n)) 256 n 0 l)
 
-  rests : (z : ℕ → Bool) → Same s true (restedBy s z)
-  rests z = rested-same s (s .rested) s refl z
+  rests : (z : ℕ → Bool) → SameCard s true (restedBy s z)
+  rests z = rested-same s (s .rested) s (same-self s) z
 
   moved-ends : (n : ℕ) → n < 256 → ends (movedBy (restedBy s x) y) n ≡ settled (cardOf s) y n
   unfolding ends movedBy

@@ -24,7 +24,7 @@ use Rattle.card_records.specs.Written.{Bytes}
 use Rattle.card_records.proofs.Example.{exampleBytes, exampleCard, example-read}
 use Rattle.card.specs.declared.Session.{Session}
 use Rattle.card.specs.Session.{none, inputsOf, sessionOf}
-use Rattle.card.proofs.Kept.{session-fresh, session-sizes}
+use Rattle.card.proofs.Sessions.{taken-loaded, taken-sizes}
 use Rattle.card.specs.Load.{concluded, judged, loadMeant, loadOf, taken}
 use Rattle.session.specs.Good.{Good}
 use Rattle.session.specs.Moves.{movedBy, vectorOf, restedBy, restOf}
@@ -53,8 +53,8 @@ example-load = ap (loadMeant none) example-read ∙ rw (worked-out .1) (ap (conc
 card-loaded : (exampleLoaded .loaded ≡ true) × (exampleLoaded .inputs ≡ 3) × (exampleLoaded .gates ≡ 2)
 unfolding exampleLoaded
 card-loaded =
-    let sizes = session-sizes exampleCard in (
-      ap (λ x. x .session .loaded) example-load ∙ session-fresh exampleCard .0,
+    let sizes = taken-sizes exampleCard in (
+      ap (λ x. x .session .loaded) example-load ∙ taken-loaded exampleCard,
       ap (λ x. x .session .inputs) example-load ∙ sizes .0 ∙ worked-out .1,
       ap (λ x. x .session .gates) example-load ∙ sizes .1 ∙ worked-out .2,
     )

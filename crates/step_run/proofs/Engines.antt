@@ -31,7 +31,7 @@ use Rattle.card.proofs.Kept.{card-fits}
 use Rattle.session.specs.Good.{Rested, Good}
 use Rattle.session.specs.Moves.{moving, ends, movedBy, vectorOf}
 use Rattle.session.proofs.Moving.{ends-calm}
-use Rattle.session.proofs.Same.{moved-by-rule}
+use Rattle.session.proofs.Moving.{moved-by-rule}
 use Rattle.step_vars.specs.Variables.{varsOf, readsIn, fnIn, historyWord, historiesFrom}
 use Rattle.step_vars.proofs.Stores.{var-net}
 use Rattle.step_list.proofs.Cards.{step-low}

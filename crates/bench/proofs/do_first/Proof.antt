@@ -9,7 +9,7 @@ use Rattle.card.specs.Held.{HasCard}
 use Rattle.card.proofs.Kept.{card-wires, card-fitting}
 use Rattle.session.specs.Moves.{ends}
 use Rattle.session.proofs.Held.{feeds-fit}
-use Rattle.session.proofs.Same.{tops-ends}
+use Rattle.session.proofs.Moving.{tops-ends}
 use Rattle.step_vars.specs.Inner.Variables.{Words}
 use Rattle.step_run.specs.Vector.{startVars}
 use Rattle.step_run.proofs.Vectors.{start-words, start-is}

@@ -10,7 +10,7 @@ use Rattle.card.specs.Held.{HasCard}
 use Rattle.card.proofs.Kept.{card-wires, card-fitting}
 use Rattle.session.specs.Moves.{ends}
 use Rattle.session.proofs.Held.{feeds-fit}
-use Rattle.session.proofs.Same.{tops-ends}
+use Rattle.session.proofs.Moving.{tops-ends}
 use Rattle.step_vars.specs.Inner.Variables.{Words}
 use Rattle.step_list.specs.Inner.Listing.{stepsNamed}
 use Rattle.step_list.proofs.Cards.{list-asked, list-held, list-few}
