@@ -11,12 +11,7 @@ use Rattle.rule.specs.Chain.{pcSet}
 use Rattle.rule.specs.Steps.{Step, readAt, stepReads}
 
 module _ (c : List Net) where
-  -- the variable that is read of a pin, by its net and its time
-  pub read-named : (t p : ℕ) → readAt c t p ≡ record { net = p; time = greatest (zeroIn (pcSet c p)) t noTime }
-  unfolding readAt
-  read-named t p = refl
-
-  -- the time is below the step's
+  -- the time of a variable that is read is below the step's
   pub read-below : (t p : ℕ) → 0 < t → readAt c t p .time < t
   unfolding readAt
   read-below t p later = zero-lt (pcSet c p) t noTime later
@@ -31,3 +26,8 @@ module _ (c : List Net) where
       → map read (pins c (k .net)) ≡ stepReads c k
   unfolding stepReads
   reads-by-pin k read same = map-on read (readAt c (k .time)) (pins c (k .net)) same
+
+  -- the variable that is read of a pin, by its net and its time
+  pub read-named : (t p : ℕ) → readAt c t p ≡ record { net = p; time = greatest (zeroIn (pcSet c p)) t noTime }
+  unfolding readAt
+  read-named t p = refl
