@@ -39,7 +39,7 @@ if [ "$(uname -m)" = x86_64 ]; then
     rm target/host/compare
 fi
 things=$(wc -l <target/host/names)
-grep -qF "\`host/faults.txt\` has $faults, each with the mismatch that has to find it, and one at least for each of the $things things compared." README.md || {
+[[ $(tr '\n' ' ' <README.md) = *"\`host/faults.txt\` has $faults, each with the mismatch that has to find it, and one at least for each of the $things things compared."* ]] || {
     echo "host: the README does not say that there are $faults faults and $things things compared" >&2
     exit 1
 }
