@@ -8,9 +8,8 @@ python3 tests/audit_test.py .
 room=$(mktemp -d)
 trap 'rm -rf "$room"' EXIT
 
-# seeded FILE SED EXPECTED: with that change the test fails and says so
-seen=0
-seeded() {
+# copied: a copy of all that the test reads
+copied() {
     rm -rf "$room"/*
     mkdir "$room/crates"
     cp -r README.md docs crates.txt host tests speed examples "$room"
@@ -20,12 +19,32 @@ seeded() {
             if [ -d "$crate/$part" ]; then cp -r "$crate/$part" "$room/$crate/$part"; fi
         done
     done
-    sed -i "$2" "$room/$1"
-    ! cmp -s "$1" "$room/$1" || { echo "audit: $2 changes nothing in $1" >&2; return 1; }
-    if python3 tests/audit_test.py "$room" >"$room/out"; then echo "audit: $2 in $1 was not found" >&2; return 1; fi
-    grep -qF "$3" "$room/out" || { echo "audit: $2 in $1 was not found as '$3'" >&2; return 1; }
+}
+
+# found WHAT EXPECTED: the test fails on the copy, and says so
+seen=0
+found() {
+    if python3 tests/audit_test.py "$room" >"$room/out"; then echo "audit: $1 was not found" >&2; return 1; fi
+    grep -qF "$2" "$room/out" || { echo "audit: $1 was not found as '$2'" >&2; return 1; }
     seen=$((seen + 1))
 }
+
+# seeded FILE SED EXPECTED: a file is changed
+seeded() {
+    copied
+    sed -i "$2" "$room/$1"
+    ! cmp -s "$1" "$room/$1" || { echo "audit: $2 changes nothing in $1" >&2; return 1; }
+    found "$2 in $1" "$3"
+}
+
+# moved FILE TO EXPECTED: a file stands elsewhere
+moved() {
+    copied
+    mkdir -p "$room/$(dirname "$2")"
+    mv "$room/$1" "$room/$2"
+    found "$1 at $2" "$3"
+}
+
 seeded crates/rule/specs/Flag.antt 's/^unfoldable pub flagOf/unfoldable pub flagIs/' 'does not have flagIs (rule/specs/Flag.antt)'
 seeded crates/rule/specs/Flag.antt '$ a pub flagIs : ℕ' 'rule/specs/Flag.antt defines flagIs in another way'
 seeded crates/rule/specs/Flag.antt '$ a abbrev flagIs : ℕ' 'rule/specs/Flag.antt defines flagIs in another way'
@@ -38,7 +57,12 @@ seeded crates/card/src/lib.rt 's/^pub fn ask_net/pub fn size/' 'card::size asks 
 seeded crates/host/src/lib.rt '0,/^    ensures.*hostMove Load/s//    requires { ⌜ 0 < 1 ⌝ }\n&/' 'host::krasvome_load begins a chain of calls and asks something'
 seeded crates/card/src/lib.rt '/^ *ensures.*netAsked/d' 'card::ask_net is in no program and has no ensures'
 seeded crates/rule/specs/Flag.antt '0,/^use /s//use Rattle.trace.specs.Inner.Caused\n&/' 'rule/specs/Flag.antt is built from inner definitions'
-seeded crates/demands/proofs/Demands.antt '0,/^use /s//use Rattle.trace.specs.Inner.Caused\n&/' 'the demands speak of inner definitions'
+seeded crates/demands/proofs/Demands.antt '0,/^use /s//use Rattle.trace.specs.Inner.Caused\n&/' 'the demands speak of inner definitions (Demands.antt)'
+seeded crates/demands/proofs/Results.antt '0,/^use /s//use Rattle.trace.specs.Inner.Caused\n&/' 'the demands speak of inner definitions (Results.antt)'
+seeded crates/trace/src/lib.rt 's/⌜ Good s ⌝/⌜ Readable s ⌝/' 'the contract of trace::trace speaks of Readable, which is inner'
+seeded docs/CONTRACTS.md 's/^| `trace` (trace) |/| `traced` (trace) |/' 'has the operation trace::traced, and there are 0'
+seeded crates/text/specs/Inner/Put.antt 's/`put-then` (text/`put-then` (tests/' 'text/specs/Inner/Put.antt names no law that ties it'
+moved crates/gate/specs/Gate.antt crates/gate/specs/Other/Gate.antt 'gate/specs has a folder, Other'
 seeded crates/gate/specs/Inner/Pins.antt '1s/Inner: //' 'gate/specs/Inner/Pins.antt does not say that it is inner'
 seeded crates/gate/proofs/Pins.antt 's/gate-by-pins/gate-of-pins/' 'is tied by gate-by-pins (gate/proofs/Pins.antt), which is not there'
 seeded crates/demands/proofs/Demands.antt 's/demand-2-card/demand-2-cards/' 'there is no demand-2-card'

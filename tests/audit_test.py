@@ -2,9 +2,11 @@
 
 1. Every function that has a `requires` is called, step by step, from a program's main or from a call for C; these ask nothing. As many functions have no
    `ensures` as docs/AUDIT.md says, all of them in the programs.
-2. docs/AUDIT.md has every definition of specs/ at its crate and file, and no other. Definitions are written in four ways and in no other.
+2. docs/AUDIT.md has every definition of specs/ at its crate and file, and no other. Definitions are written in four ways and in no other. A file of specs/Inner says
+   that it is inner and names a law that ties it, which is there. Neither a definition outside Inner, nor what demands/proofs says, nor the contract of an operation that
+   docs/CONTRACTS.md calls public speaks of an inner definition.
 3. In the README and in every document of docs/, names with a path behind them are defined in that file, and every other name occurs somewhere in the tree, but for
-   docs/REQUESTS.md, which names what is still to come. An edit that docs/CONTRACTS.md names is there, and every edit is named and counted.
+   docs/REQUESTS.md, which names what is still to come. docs/CONTRACTS.md names every edit and every theorem once. docs/figures and docs/drawing would write what stands.
 4. host/krasvome.h has the length of a session that host_bytes has. No file of host_bytes, or of a crate that uses it, writes out where a part of a session stands, but for
    the definitions and the constants themselves.
 """
@@ -115,12 +117,33 @@ for crate in listed:
             head = " ".join(line[3:] for line in text[: text.index("\nuse ")].splitlines())
             if not head.startswith("Inner: "):
                 faults.append(f"{place} does not say that it is inner")
-            for names, path in re.findall(r"((?:`[^`]+`(?:, | and ))*`[^`]+`) \(([a-z_]+/proofs/\w+\.antt)\)", head):
+            ties = re.findall(r"((?:`[^`]+`(?:, | and ))*`[^`]+`) \(([a-z_]+/proofs/\w+\.antt)\)", head)
+            if not ties:
+                faults.append(f"{place} names no law that ties it")
+            for names, path in ties:
                 for name in names_of(names):
                     if not (crates / path).exists() or not re.search(rf"^ *pub {re.escape(name)} ", (crates / path).read_text(encoding="utf-8"), flags=re.M):
                         faults.append(f"{place} is tied by {name} ({path}), which is not there")
-if re.search(r"^use \S*\.specs\.Inner\.", (crates / "demands/proofs/Demands.antt").read_text(encoding="utf-8"), flags=re.M):
-    faults.append("the demands speak of inner definitions")
+for file in sorted((crates / "demands/proofs").glob("**/*.antt")):
+    if re.search(r"^use \S*\.specs\.Inner\.", file.read_text(encoding="utf-8"), flags=re.M):
+        faults.append(f"the demands speak of inner definitions ({file.name})")
+
+contracts = (root / "docs/CONTRACTS.md").read_text(encoding="utf-8")
+public = set()
+for row in re.findall(r"^\| (`.*?) \|", contracts.split("\n## Public operations\n")[1].split("\n## ")[0], flags=re.M):
+    for names, crate in re.findall(r"((?:`[^`]+`(?:, )?)+) \(([a-z_]+)\)", row):
+        public |= {(crate, name) for name in names_of(names)}
+for crate, name in sorted(public):
+    found = 0
+    for file in sorted((crates / crate / "src").glob("**/*.rt")):
+        text = re.sub(r"//.*", "", file.read_text(encoding="utf-8"))
+        inner = {name for names in re.findall(r"^ghost use \S*\.specs\.Inner\.\w+\.\{([^}]*)\}", text, flags=re.M) for name in re.findall(r"[^\s,]+", names)}
+        for contract in re.findall(rf"^ *pub (?:extern \"C\" )?fn {name}\b(.*?)^ *\{{$", text, flags=re.M | re.S):
+            found += 1
+            for cited in sorted(inner & set(re.findall(r"[\w-]+", contract))):
+                faults.append(f"the contract of {crate}::{name} speaks of {cited}, which is inner")
+    if found != 1:
+        faults.append(f"docs/CONTRACTS.md has the operation {crate}::{name}, and there are {found}")
 
 # --- 3. names with a path behind them, and edits
 
@@ -162,7 +185,6 @@ for document in ("README.md", *(f"docs/{file.name}" for file in sorted((root / "
             pathed += 1
             if not defines(files, name):
                 faults.append(f"{document}: {path} does not define {name}")
-contracts = (root / "docs/CONTRACTS.md").read_text(encoding="utf-8")
 edits = {f"{crate}/{file.stem}": file.read_text(encoding="utf-8") for crate in listed for file in (crates / crate / "must-fail").glob("*.edit")}
 for edit, text in sorted(edits.items()):
     if contracts.count(f"| {edit} |") != 1 or len(re.findall(rf"(?<![\w/-]){re.escape(edit)}(?![\w-])", contracts)) != 1:
@@ -197,5 +219,5 @@ for crate in re.findall(r"^(?=.*\bhost_bytes\b)(\w+):", (root / "crates.txt").re
 for fault in faults:
     print(f"audit: {fault}")
 clauses = sum(known[key][0] for key in asking)
-print(f"audit: {len(asking)} functions of {len(known)} have {clauses} clauses of requires; {len(defined)} definitions; {pathed} names by path; {len(edits)} edits")
+print(f"audit: {len(asking)} functions of {len(known)} have {clauses} clauses of requires; {len(defined)} definitions; {len(public)} operations; {pathed} names by path; {len(edits)} edits")
 sys.exit(bool(faults))

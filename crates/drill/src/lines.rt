@@ -5,7 +5,7 @@ ghost use Prim.Native.Nat.{_≤_};
 ghost use lib.ListN.{length, getD};
 ghost use Rattle.drill_text.specs.Parts.{words};
 ghost use Rattle.drill_text.specs.Digits.{bytesOf};
-ghost use Rattle.drill_text.specs.Inner.Filled.{Filled};
+ghost use Rattle.drill_text.specs.Filled.{Filled};
 ghost use Rattle.drill.specs.Inner.Kept.{Kept};
 ghost use Rattle.drill.specs.Inner.Rooms.{recordedIn};
 use crate::Turn;

@@ -7,7 +7,7 @@ use native.Mathlib.Omega.{arith}
 use lib.ListN.{length, getD, take, drop, set, length-set}
 use lib.Seq.{length-take-le, take-suc-set, drop-set-lt, drop-drop}
 use Rattle.drill_text.specs.Digits.{byteOf, bytesOf}
-use Rattle.drill_text.specs.Inner.Filled.{Filled}
+use Rattle.drill_text.specs.Filled.{Filled}
 use Rattle.drill_text.proofs.Spelling.{bytes-on, bytes-end}
 
 -- n entries stand in the room, and the others of the list are still to come

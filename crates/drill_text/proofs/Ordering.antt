@@ -6,7 +6,7 @@ use Prim.Native.Nat.{ℕ, _+_, _≤_, _<_}
 use lib.ListN.{length, getD, drop, set}
 use Rattle.drill_text.specs.Parts.{parts, partsFrom}
 use Rattle.drill_text.specs.Digits.{numberSpelled, isDash}
-use Rattle.drill_text.specs.Inner.Filled.{Filled}
+use Rattle.drill_text.specs.Filled.{Filled}
 use Rattle.drill_text.specs.Orders.{isSpelled, allNumbers, isOrder, orderEntry, entries, orderSpelled}
 use Rattle.drill_text.proofs.Parted.{from-here, from-past, from-start}
 use Rattle.drill_text.proofs.Filling.{Filling, filling-none, filling-more, filling-all}

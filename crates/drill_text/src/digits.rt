@@ -3,7 +3,7 @@ ghost use mathlib.Core.Path.{_≡_};
 ghost use Prim.Native.Nat.{_+_, _*_, _/_, _≤_, _<_};
 ghost use lib.ListN.{length};
 ghost use Rattle.drill_text.specs.Digits.{digitOf, numberSpelled, roomOf, isDash, allDigits, isHex, nibbleOf, byteOf, bytesOf};
-ghost use Rattle.drill_text.specs.Inner.Filled.{Filled};
+ghost use Rattle.drill_text.specs.Filled.{Filled};
 use crate::Number;
 
 // A hexadecimal digit's value, and 16 for any other byte.

@@ -3,7 +3,7 @@ ghost use mathlib.Core.Path.{_≡_};
 ghost use Prim.Native.Nat.{_<_};
 ghost use lib.ListN.{length};
 ghost use Rattle.drill_text.specs.Digits.{numberSpelled};
-ghost use Rattle.drill_text.specs.Inner.Filled.{Filled};
+ghost use Rattle.drill_text.specs.Filled.{Filled};
 ghost use Rattle.drill_text.specs.Orders.{isSpelled, isOrder, orderEntry, orderSpelled};
 use crate::Number;
 use crate::digits::is_dash;

@@ -23,7 +23,7 @@ use Rattle.host_made.specs.declared.Made.{Made}
 unfoldable pub broken : Made
 broken = record { whole = false; session = none }
 
--- what is made of a session that an operation left, if it was whenDone
+-- what is made of a session that an operation left, if it was done
 abbrev pub whenDone : Answer → Made → Made
 whenDone (Done count) m = m
 whenDone (Refused why) m = broken

@@ -39,7 +39,7 @@ use Rattle.sheet_text.specs.declared.Sheet.{Sheet}
 use Rattle.sheet_text.specs.declared.Piece.{Piece}
 use Rattle.sheet_text.specs.Lines.{blank, lf, depthWord, stepsWord, vectorWord, refusedLine, firstLine, historyLine, cardText, vectorText}
 use Rattle.sheet_text.specs.Walk.{cardEnd, entryAt, body}
-use Rattle.sheet_text.specs.Inner.Pieces.{Portion, refusedPiece, pieceUnless, loadedPiece, cardPiece, entryPiece, pieceAt, pieceOf, Written, written, Standing}
+use Rattle.sheet_text.specs.Pieces.{Portion, refusedPiece, pieceUnless, loadedPiece, cardPiece, entryPiece, pieceAt, pieceOf, Written, written, Standing}
 use Rattle.sheet_text.proofs.Lengths.{byte-short, word-short, line-short}
 use Rattle.sheet_text.proofs.Steps.{bytes-front}
 use Rattle.sheet_text.proofs.Standing.{Placed, entry-placed, piece-stands}

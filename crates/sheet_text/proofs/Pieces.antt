@@ -25,7 +25,7 @@ use Rattle.sheet_text.specs.declared.Sheet.{Sheet}
 use Rattle.sheet_text.specs.Lines.{cardText, vectorText}
 use Rattle.sheet_text.specs.Walk.{cardEnd, entryAt, body}
 use Rattle.sheet_text.specs.Sheet.{unlessRefused, entryText, recordsText, loadedText, sheetOf}
-use Rattle.sheet_text.specs.Inner.Pieces.{fresh, ended, Portion, refusedPiece, pieceUnless, loadedPiece, cardPiece, entryPiece, pieceAt, pieceOf, written, texts, wrote, afterPieces, Standing}
+use Rattle.sheet_text.specs.Pieces.{fresh, ended, Portion, refusedPiece, pieceUnless, loadedPiece, cardPiece, entryPiece, pieceAt, pieceOf, written, texts, wrote, afterPieces, Standing}
 use Rattle.sheet_text.proofs.Left.{leftAt, left}
 use Rattle.sheet_text.proofs.Standing.{Placed, entry-placed, entry-past, fresh-stands, piece-stands, piece-falls}
 use Rattle.sheet_text.proofs.Fits.{piece-fits, piece-read, page-stays, sheet-after}

@@ -26,7 +26,7 @@ use Rattle.sheet_text.specs.declared.Stage.{Stage}
 use Rattle.sheet_text.specs.declared.Stage.the-variants.{Fresh, Going, Over}
 use Rattle.sheet_text.specs.declared.Sheet.{Sheet}
 use Rattle.sheet_text.specs.Walk.{cardEnd, entryIn, entryAt, body}
-use Rattle.sheet_text.specs.Inner.Pieces.{fresh, ended, movedSheet, Portion, refusedPiece, pieceUnless, loadedPiece, cardPiece, entryPiece, pieceAt, pieceOf, Standing, isOver}
+use Rattle.sheet_text.specs.Pieces.{fresh, ended, movedSheet, Portion, refusedPiece, pieceUnless, loadedPiece, cardPiece, entryPiece, pieceAt, pieceOf, Standing, isOver}
 use Rattle.sheet_text.proofs.Left.{leftAt, left}
 use Rattle.sheet_text.proofs.Steps.{bytes-front}
 

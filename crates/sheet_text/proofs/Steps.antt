@@ -20,7 +20,7 @@ use Rattle.text.specs.Inner.Put.{Put}
 use Rattle.sheet_text.specs.declared.Sheet.{Sheet}
 use Rattle.sheet_text.specs.declared.Stage.{Stage}
 use Rattle.sheet_text.specs.Walk.{cardEnd}
-use Rattle.sheet_text.specs.Inner.Pieces.{Portion, Written, refusedPiece, pieceUnless, loadedPiece, cardPiece, pieceAt, pieceOf, written}
+use Rattle.sheet_text.specs.Pieces.{Portion, Written, refusedPiece, pieceUnless, loadedPiece, cardPiece, pieceAt, pieceOf, written}
 
 -- a text put at the front of the page, and the sheet after it
 pub hand-back : (p : Portion) {sheet : Sheet} {old new : List ℕ} {n : ℕ} → sheet ≡ p .after → Put (p .text) old 0 new n
@@ -38,7 +38,7 @@ pub piece-at : (sheet : Sheet) (file : List ℕ) (x : Stage) → sheet .stage �
 unfolding pieceOf
 piece-at sheet file x e = ap (λ y. pieceAt y sheet file) (sym e)
 
--- An answer decides between a refusedPiece and a portion
+-- An answer decides between a refusal and a portion
 
 pub refused-so : (a : Answer) (sheet : Sheet) (p : Portion) (why : Refusal) → a ≡ Refused why → refusedPiece sheet why ≡ pieceUnless a sheet p
 refused-so a sheet p why e = ap (λ x. pieceUnless x sheet p) (sym e)

@@ -1,4 +1,4 @@
 pub mod Lines
 pub mod Walk
 pub mod Sheet
-pub mod Inner
+pub mod Pieces

@@ -7,8 +7,8 @@ ghost use Prim.Native.Nat.{_<_, _≤_};
 ghost use Rattle.card.specs.Held.{HasCard};
 ghost use Rattle.session.specs.Moves.{restOf, vectorOf};
 ghost use Rattle.sheet_text.specs.Lines.{cardText};
-ghost use Rattle.sheet_text.specs.Inner.Pieces.{fresh, ended, opened, refusedPiece, pieceOf, written, Standing, isOver};
-ghost use Rattle.sheet_text.specs.Inner.Pieces.{cardPiece, restPiece, vectorPiece, entryPiece};
+ghost use Rattle.sheet_text.specs.Pieces.{fresh, ended, opened, refusedPiece, pieceOf, written, Standing, isOver};
+ghost use Rattle.sheet_text.specs.Pieces.{cardPiece, restPiece, vectorPiece, entryPiece};
 ghost use Rattle.sheet_text.specs.Walk.{entryAt};
 ghost use Rattle.sheet_text.specs.declared.Stage.the-variants.{Going};
 use card::Session;
@@ -77,7 +77,7 @@ fn end(sheet: Sheet) -> Sheet
     }
 }
 
-// A refusedPiece: its line, and the sheet ends.
+// A refusal: its line, and the sheet ends.
 fn refused(sheet: Sheet, why: Refusal, out: &mut [u8; 20480]) -> Piece
     ensures { λ r. ⌜ record { piece = r; page = now (out .exit) } ≡ written (refusedPiece sheet why) (now (out .entry)) ⌝ }
 {

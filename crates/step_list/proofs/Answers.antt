@@ -129,7 +129,7 @@ module _ (s : Session) (nets times : List ℕ) where
       go r (says-18 l m) q = inr ((cc), l, m)
       go r (says-0 l m k) q = let z : _≡_ {A = ℕ} 0 1 = cc in absurd (omega arith)
 
-  -- What stands in the lent places: the steps, numberedStep by level, then net, then time
+  -- What stands in the lent places: the steps, numbered by level, then net, then time
   module _ (loaded : s .loaded ≡ true) (m : length all ≤ length nets) (l : length all ≤ length times) where
     pub list-steps : stepsNamed (listOf s nets times .nets) (listOf s nets times .times) (length all) ≡ all
     list-steps =

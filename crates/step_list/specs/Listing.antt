@@ -17,7 +17,7 @@ pub record Listed : Type 0 where
   pub nets : List ℕ
   pub times : List ℕ
 
--- "Steps are numberedStep from 0 by level, then net, then time. The step list goes to the lent place as records of net and time."
+-- "Steps are numbered from 0 by level, then net, then time. The step list goes to the lent place as records of net and time."
 unfoldable pub listOf : Session → List ℕ → List ℕ → Listed
 listOf s nets times =
     let ks = stepList (cardOf s) in

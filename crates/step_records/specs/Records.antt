@@ -20,7 +20,7 @@ blankRecord = record { net = 0; time = 0 }
 abbrev pub stepRecord : Step → StepRecord
 stepRecord k = record { net = k .net; time = k .time }
 
--- f 0, f 1, ..: n of them, at the front of some room; "Lent room past the part recordsPut keeps its contents."
+-- f 0, f 1, ..: n of them, at the front of some room; "Lent room past the part written keeps its contents."
 abbrev pub recordsIn : (ℕ → StepRecord) → ℕ → List StepRecord → List StepRecord
 recordsIn f n room = listed (upto f (λ i. getD room i blankRecord) n) (length room)
 

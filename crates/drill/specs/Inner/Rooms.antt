@@ -1,4 +1,5 @@
--- Inner: cited by contracts between functions alone, and by laws. The room that is lent for the step list as records. Assumes nothing.
+-- Inner: cited by contracts between functions alone, and by laws. The room that is lent for the step list as records.
+-- A refusal leaves all of it as it was: `recorded-refused` (drill/proofs/Lent.antt). Assumes nothing.
 use Prim.Native.Nat.{ℕ, _-_}
 use mathlib.Core.List.{List, _++_}
 use lib.ListN.{replicate}
@@ -7,7 +8,7 @@ use Rattle.step_records.specs.declared.StepRecord.{StepRecord}
 use Rattle.step_records.specs.Records.{Answered, recordsOf}
 use Rattle.drill.specs.declared.lines.Recorded.{Recorded}
 
--- a record, and n of them, lentRecords a call: every entry is 170
+-- a record, and n of them, ahead of a call: every entry is 170
 abbrev pub lentRecord : StepRecord
 lentRecord = record { net = 170; time = 170 }
 

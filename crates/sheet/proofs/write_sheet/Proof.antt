@@ -6,7 +6,7 @@ use native.Mathlib.Omega.{arith}
 use lib.ListN.{length}
 use borrow.Author.Tests.{not-true}
 use borrow.Author.Needs.{needs}
-use Rattle.sheet_text.specs.Inner.Pieces.{pieceOf, Standing}
+use Rattle.sheet_text.specs.Pieces.{pieceOf, Standing}
 use Rattle.sheet_text.proofs.Left.{left}
 use Rattle.sheet_text.proofs.Standing.{going-falls}
 use Rattle.sheet_text.proofs.Fits.{page-stays, sheet-after}

@@ -2,7 +2,7 @@
 use mathlib.Core.Path.{_≡_, sym, subst}
 use Rattle.sheet_text.specs.declared.Sheet.{Sheet}
 use Rattle.sheet_text.specs.declared.Stage.the-variants.{Fresh}
-use Rattle.sheet_text.specs.Inner.Pieces.{fresh, Standing}
+use Rattle.sheet_text.specs.Pieces.{fresh, Standing}
 use Rattle.sheet_text.proofs.Standing.{fresh-stands}
 use borrow.Author.Needs.{needs}
 use Rattle.sheet_text.proofs.begin.Statement.{statement}

@@ -6,7 +6,7 @@ use native.Mathlib.Omega.{arith}
 use lib.ListN.{length}
 use Rattle.sheet_text.specs.declared.Entry.{Entry}
 use Rattle.sheet_text.specs.declared.Entry.the-variants.{Rest, Vector}
-use Rattle.sheet_text.specs.Inner.Pieces.{entryPiece}
+use Rattle.sheet_text.specs.Pieces.{entryPiece}
 use Rattle.text.proofs.Texts.{put-none}
 use Rattle.sheet_text.proofs.Steps.{hand-back, hand-on}
 use Rattle.sheet_text.proofs.Standing.{Placed, entry-placed}

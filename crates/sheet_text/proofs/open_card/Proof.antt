@@ -3,7 +3,7 @@ use mathlib.Core.Path.{_≡_, sym, _∙_}
 use native.Mathlib.Omega.{arith}
 use lib.Seq.{length-take-le}
 use Rattle.card.proofs.Verdicts.{load-holds}
-use Rattle.sheet_text.specs.Inner.Pieces.{loadedPiece, cardPiece}
+use Rattle.sheet_text.specs.Pieces.{loadedPiece, cardPiece}
 use Rattle.sheet_text.proofs.Steps.{hand-on, refused-so, done-so, card-long, card-loads, bytes-front}
 use borrow.Author.Needs.{needs}
 use Rattle.sheet_text.proofs.open_card.Statement.{statement}

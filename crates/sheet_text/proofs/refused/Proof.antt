@@ -1,5 +1,5 @@
 -- `sheet_text::refused` meets its contract. Assumes nothing.
-use Rattle.sheet_text.specs.Inner.Pieces.{refusedPiece}
+use Rattle.sheet_text.specs.Pieces.{refusedPiece}
 use Rattle.sheet_text.proofs.Steps.{hand-back}
 use borrow.Author.Needs.{needs}
 use Rattle.sheet_text.proofs.refused.Statement.{statement}

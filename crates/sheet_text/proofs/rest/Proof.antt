@@ -2,7 +2,7 @@
 use mathlib.Core.Path.{refl, ap, _∙_}
 use mathlib.Core.List.{[]}
 use Rattle.text.proofs.Texts.{put-none}
-use Rattle.sheet_text.specs.Inner.Pieces.{movedSheet, restPiece}
+use Rattle.sheet_text.specs.Pieces.{movedSheet, restPiece}
 use Rattle.sheet_text.proofs.Steps.{hand-back, hand-on, refused-so, done-so}
 use borrow.Author.Needs.{needs}
 use Rattle.sheet_text.proofs.rest.Statement.{statement}

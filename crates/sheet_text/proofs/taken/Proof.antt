@@ -5,7 +5,7 @@ use Rattle.card.specs.Session.{cardOf}
 use Rattle.card.proofs.Kept.{loaded-is, depth-loaded}
 use Rattle.sheet_text.specs.declared.Stage.the-variants.{Going}
 use Rattle.sheet_text.specs.Lines.{cardText}
-use Rattle.sheet_text.specs.Inner.Pieces.{opened}
+use Rattle.sheet_text.specs.Pieces.{opened}
 use Rattle.sheet_text.proofs.Steps.{hand-back}
 use Rattle.sheet_text.proofs.taken.Statement.{statement}
 use Rattle.sheet_text.proofs.taken.Tie as tie

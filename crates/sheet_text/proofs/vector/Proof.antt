@@ -7,7 +7,7 @@ use Rattle.card.specs.Session.{cardOf}
 use Rattle.session.specs.Good.{Good}
 use Rattle.session.proofs.Kept.{vector-good, vector-card, vector-rests}
 use Rattle.sheet_text.specs.Lines.{vectorText}
-use Rattle.sheet_text.specs.Inner.Pieces.{movedSheet, vectorPiece}
+use Rattle.sheet_text.specs.Pieces.{movedSheet, vectorPiece}
 use Rattle.sheet_text.proofs.Steps.{hand-back, hand-on, refused-so, done-so}
 use borrow.Author.Needs.{needs}
 use Rattle.sheet_text.proofs.vector.Statement.{statement}

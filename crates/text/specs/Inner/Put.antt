@@ -1,4 +1,5 @@
--- Inner: cited by contracts between functions alone, and by laws. A text put at a place of a page. Assumes nothing.
+-- Inner: cited by contracts between functions alone, and by laws. A text put at a place of a page. Two texts put one
+-- after the other are the joined text put: `put-then` (text/proofs/Texts.antt). Assumes nothing.
 use mathlib.Core.Path.{_≡_}
 use mathlib.Core.List.{List}
 use Prim.Native.Nat.{ℕ, _+_}

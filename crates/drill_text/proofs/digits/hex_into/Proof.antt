@@ -4,7 +4,7 @@ use Prim.Native.Nat.{_*_, _-_, _/_, _≤_}
 use native.Mathlib.Omega.{arith}
 use lib.ListN.{length, drop}
 use Rattle.drill_text.specs.Digits.{bytesOf}
-use Rattle.drill_text.specs.Inner.Filled.{Filled}
+use Rattle.drill_text.specs.Filled.{Filled}
 use Rattle.drill_text.proofs.Filling.{Filling, filling-none, hex-more, hex-all}
 use borrow.Author.Needs.{needs}
 use Rattle.drill_text.proofs.digits.hex_into.Statement.{statement}

@@ -1,4 +1,4 @@
--- `files::card_end` meets its contract. The loop's invariant: the walk from here on ends where the card does. Assumes nothing.
+-- `sheet_text::files::card_end` meets its contract. The loop's invariant: the walk from here on ends where the card does. Assumes nothing.
 use mathlib.Core.Path.{_≡_, sym, _∙_}
 use Prim.Native.Nat.{_+_, _-_, _≤_}
 use native.Mathlib.Omega.{arith}

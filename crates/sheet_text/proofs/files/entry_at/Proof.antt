@@ -1,4 +1,4 @@
--- `files::entry_at` meets its contract: at each return the tests that led there say what stands at the place. Assumes nothing.
+-- `sheet_text::files::entry_at` meets its contract: at each return the tests that led there say what stands at the place. Assumes nothing.
 use mathlib.Core.Path.{refl, _∙_}
 use native.Mathlib.Omega.{arith}
 use borrow.Author.Needs.{needs}

@@ -1,4 +1,4 @@
--- `files::is_end` meets its contract. Assumes nothing.
+-- `sheet_text::files::is_end` meets its contract. Assumes nothing.
 use borrow.Author.Tests.{eq-eqb, ne-eqb}
 use Rattle.sheet_text.proofs.files.is_end.Statement.{statement}
 use Rattle.sheet_text.proofs.files.is_end.Tie as tie

@@ -1,4 +1,4 @@
--- `lines::put_card` meets its contract: its two halves, one after the other. Assumes nothing.
+-- `sheet_text::lines::put_card` meets its contract: its two halves, one after the other. Assumes nothing.
 use mathlib.Core.Path.{_≡_, ap₂, _∙_}
 use native.Mathlib.Omega.{arith}
 use lib.ListN.{length}

@@ -1,4 +1,4 @@
--- `lines::put_net` meets its contract: its parts one after another, none longer than its share of the 77 bytes. Assumes nothing.
+-- `sheet_text::lines::put_net` meets its contract: its parts one after another, none longer than its share of the 77 bytes. Assumes nothing.
 use mathlib.Core.Path.{ap₂}
 use mathlib.Core.List.{List, [], _∷_, _++_}
 use Prim.Native.Nat.{ℕ, _+_, _≤_}

@@ -1,4 +1,4 @@
--- `lines::put_nets` meets its contract. The loop's invariant: the lines of the nets below i are put, with at most 77 bytes each. Assumes nothing.
+-- `sheet_text::lines::put_nets` meets its contract. The loop's invariant: the lines of the nets below i are put, with at most 77 bytes each. Assumes nothing.
 use mathlib.Core.Path.{_≡_, ap}
 use mathlib.Core.List.{List}
 use Prim.Native.Nat.{ℕ, _+_, _-_, _*_, _≤_}

@@ -1,4 +1,4 @@
--- `lines::put_refused` meets its contract: a refusal's number is below 256. Assumes nothing.
+-- `sheet_text::lines::put_refused` meets its contract: a refusal's number is below 256. Assumes nothing.
 use mathlib.Core.Path.{_∙_, ap}
 use native.Mathlib.Omega.{arith}
 use Rattle.text.proofs.Texts.{put-same}

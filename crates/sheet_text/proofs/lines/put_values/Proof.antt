@@ -1,4 +1,4 @@
--- `lines::put_values` meets its contract. The loop's invariant: the values at times below t are put. Assumes nothing.
+-- `sheet_text::lines::put_values` meets its contract. The loop's invariant: the values at times below t are put. Assumes nothing.
 use mathlib.Core.Path.{_≡_, sym, ap, _∙_}
 use Prim.Native.Nat.{ℕ, _+_, _-_, _≤_}
 use native.Mathlib.Omega.{arith}

@@ -1,4 +1,4 @@
--- `lines::put_vector` meets its contract: the slices that history fills hold what the lines say. Assumes nothing.
+-- `sheet_text::lines::put_vector` meets its contract: the slices that history fills hold what the lines say. Assumes nothing.
 use mathlib.Core.Path.{ap}
 use mathlib.Core.List.{_++_}
 use native.Mathlib.Omega.{arith}

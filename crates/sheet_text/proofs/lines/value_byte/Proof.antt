@@ -1,4 +1,4 @@
--- `lines::value_byte` meets its contract. Assumes nothing.
+-- `sheet_text::lines::value_byte` meets its contract. Assumes nothing.
 use Rattle.sheet_text.proofs.lines.value_byte.Statement.{statement}
 use Rattle.sheet_text.proofs.lines.value_byte.Tie as tie
 

@@ -1,4 +1,4 @@
--- Inner: cited by contracts between functions alone, and by laws. Lent room of which the front is written. Assumes nothing.
+-- Lent room of which the front is written: what `hex_into` and `order_into` leave. Assumes nothing.
 use mathlib.Core.Path.{_≡_}
 use mathlib.Core.List.{List}
 use Prim.Native.Nat.{ℕ, _≤_}

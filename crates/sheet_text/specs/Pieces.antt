@@ -1,5 +1,5 @@
--- Inner: cited by contracts between functions alone, and by laws. The pieces of a sheet, one after another. Joined they are the sheet: `sheet-pieces`,
--- `sheet-written` (sheet_text/proofs/Pieces.antt). Assumes nothing.
+-- The pieces of a sheet, as `next` hands them out one after another, and what a program that writes them has written. Document 01 knows the sheet alone
+-- (`sheetOf`); joined the pieces are the sheet: `sheet-pieces`, `sheet-written` (sheet_text/proofs/Pieces.antt). Assumes nothing.
 use mathlib.Core.Path.{_≡_}
 use mathlib.Core.Bool.{Bool, true, false, cond}
 use mathlib.Core.List.{List, [], _++_}
@@ -36,7 +36,7 @@ fresh = record { session = none; depth = 0; at = 0; vectors = 0; stage = Fresh }
 abbrev pub ended : Sheet → Sheet
 ended sheet = record { session = sheet .session; depth = sheet .depth; at = sheet .at; vectors = sheet .vectors; stage = Over }
 
--- a sheet on which a record movedSheet the session
+-- a sheet on which a record moved the session
 abbrev pub movedSheet : Sheet → Session → ℕ → ℕ → Sheet
 movedSheet sheet s next vectors = record { session = s; depth = sheet .depth; at = next; vectors = vectors; stage = Going }
 
@@ -52,7 +52,7 @@ pub record Portion : Type 0 where
 abbrev pub refusedPiece : Sheet → Refusal → Portion
 refusedPiece sheet why = record { text = refusedLine why; after = ended sheet }
 
--- a refusedPiece ends the sheet with its line
+-- a refusal ends the sheet with its line
 abbrev pub pieceUnless : Answer → Sheet → Portion → Portion
 pieceUnless (Done count) sheet p = p
 pieceUnless (Refused why) sheet p = refusedPiece sheet why
