@@ -12,25 +12,19 @@ use Rattle.rule.specs.declared.Refusal.the-variants.{CutShort, TooManyNets}
 use Rattle.card_records.specs.Bytes.{u16At, kindFits, typeFits, bodyFits, netRecord, recordAt, recordRead}
 use Rattle.card_records.specs.Scan.{Stops, Means, netMeant, scan, meaning}
 use Rattle.card_records.specs.Stopped.{no-head, no-room}
+use Rattle.card_records.specs.Example.{exampleCard}
 use Rattle.card_records.specs.Written.{netBytes, cardBytes, Legal, AllLegal}
 use Rattle.card_records.proofs.Cards.{none-legal, all-legal, read-back, stops}
 
--- "00000100 00000100 00000100 0500030002 00000100 0500030004 03000200 00000400"
-abbrev pub exampleBytes : List ℕ
-exampleBytes =
-    0 ∷ 0 ∷ 1 ∷ 0 ∷ 0 ∷ 0 ∷ 1 ∷ 0 ∷ 0 ∷ 0 ∷ 1 ∷ 0
-    ∷ 5 ∷ 0 ∷ 3 ∷ 0 ∷ 2 ∷ 0 ∷ 0 ∷ 1 ∷ 0
-    ∷ 5 ∷ 0 ∷ 3 ∷ 0 ∷ 4 ∷ 3 ∷ 0 ∷ 2 ∷ 0
-    ∷ 0 ∷ 0 ∷ 4 ∷ 0 ∷ []
+-- its nets
+abbrev pub exampleNets : List Net
+exampleNets = input ∷ input ∷ input ∷ gate 2 (0 ∷ 1 ∷ []) ∷ gate 4 (3 ∷ 2 ∷ []) ∷ []
 
-abbrev pub exampleCard : List Net
-exampleCard = input ∷ input ∷ input ∷ gate 2 (0 ∷ 1 ∷ []) ∷ gate 4 (3 ∷ 2 ∷ []) ∷ []
-
-pub example-read : meaning exampleBytes ≡ Means exampleCard
+pub example-read : meaning exampleCard ≡ Means exampleNets
 unfolding u16At kindFits typeFits bodyFits netRecord recordAt recordRead netMeant scan listed listedFrom
 example-read = refl
 
-pub example-written : exampleBytes ≡ cardBytes exampleCard
+pub example-written : exampleCard ≡ cardBytes exampleNets
 unfolding netBytes cardBytes
 example-written = refl
 

@@ -2,4 +2,5 @@ pub mod Bytes
 pub mod Scan
 pub mod Written
 pub mod Stopped
+pub mod Example
 pub mod Inner

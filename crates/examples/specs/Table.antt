@@ -2,6 +2,7 @@
 use mathlib.Core.List.{List, [], _∷_, _++_}
 use Prim.Native.Nat.{ℕ, _-_, _^_}
 use Rattle.rule.specs.Net.{Net, input, gate, openPin}
+use Rattle.card_records.specs.Example.{exampleCard}
 use Rattle.card_records.specs.Written.{cardBytes}
 use Rattle.operations.specs.declared.Engine.{Engine}
 use Rattle.operations.specs.declared.Engine.the-variants.{Fields, Steps}
@@ -42,13 +43,6 @@ abbrev pub ones : ℕ
 ones = 2 ^ 64 - 1
 
 -- P1: "00000100 00000100 00000100 0500030002 00000100 0500030004 03000200 00000400 03000500000101 03000600010100"
-abbrev pub exampleCard : List ℕ
-exampleCard =
-    0 ∷ 0 ∷ 1 ∷ 0 ∷ 0 ∷ 0 ∷ 1 ∷ 0 ∷ 0 ∷ 0 ∷ 1 ∷ 0
-    ∷ 5 ∷ 0 ∷ 3 ∷ 0 ∷ 2 ∷ 0 ∷ 0 ∷ 1 ∷ 0
-    ∷ 5 ∷ 0 ∷ 3 ∷ 0 ∷ 4 ∷ 3 ∷ 0 ∷ 2 ∷ 0
-    ∷ 0 ∷ 0 ∷ 4 ∷ 0 ∷ []
-
 abbrev pub exampleFile : List ℕ
 exampleFile = exampleCard ++ (3 ∷ 0 ∷ 5 ∷ 0 ∷ 0 ∷ 1 ∷ 1 ∷ 3 ∷ 0 ∷ 6 ∷ 0 ∷ 1 ∷ 1 ∷ 0 ∷ [])
 

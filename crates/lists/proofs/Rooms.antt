@@ -10,54 +10,51 @@ use lib.ListN.{length, getD, set, List·getD-eq-default}
 use lib.Seq.{sets}
 use borrow.Author.Tests.{lt-ltb, le-ltb}
 use Rattle.lists.specs.Listed.{listed, upto}
-use Rattle.lists.specs.Filled.{filled}
+use Rattle.lists.specs.Filled.{fills, filled}
 use Rattle.lists.proofs.Listed.{length-listed, listed-at, listed-past, listed-ext, listed-self, upto-none, upto-more}
 
 -- d is what is read past a list's end
 module _ {A : Type 0} (d : A) where
-  abbrev pub fills : (ℕ → A) → ℕ → List A → List A
-  fills f n room = listed (upto f (λ i. getD room i d) n) (length room)
-
-  pub fills-none : (f : ℕ → A) (room : List A) → room ≡ fills f 0 room
+  pub fills-none : (f : ℕ → A) (room : List A) → room ≡ fills d f 0 room
   fills-none f room = listed-self room d ∙ upto-none f (λ i. getD room i d) (length room)
 
-  pub fills-length : (f : ℕ → A) (n : ℕ) (room : List A) → length (fills f n room) ≡ length room
+  pub fills-length : (f : ℕ → A) (n : ℕ) (room : List A) → length (fills d f n room) ≡ length room
   fills-length f n room = length-listed (upto f (λ i. getD room i d) n) (length room)
 
-  pub fills-same : (f g : ℕ → A) (n : ℕ) (room : List A) → ((e : ℕ) → e < n → f e ≡ g e) → fills f n room ≡ fills g n room
+  pub fills-same : (f g : ℕ → A) (n : ℕ) (room : List A) → ((e : ℕ) → e < n → f e ≡ g e) → fills d f n room ≡ fills d g n room
   fills-same f g n room h = listed-ext (upto f (λ i. getD room i d) n) (upto g (λ i. getD room i d) n) (length room) (λ i l. at i (decLt i n))
     where
       at : (i : ℕ) → Dec (i < n) → upto f (λ i. getD room i d) n i ≡ upto g (λ i. getD room i d) n i
       at i (yes b) = rw (lt-ltb i n b) (h i b)
       at i (no b) = rw (le-ltb i n (omega arith))
 
-  pub fills-more : (f g : ℕ → A) (n : ℕ) (room : List A) (v : A) → n < length room → ((e : ℕ) → e < n → f e ≡ g e) → v ≡ g n → set (fills f n room) n v ≡ fills g (n + 1) room
+  pub fills-more : (f g : ℕ → A) (n : ℕ) (room : List A) (v : A) → n < length room → ((e : ℕ) → e < n → f e ≡ g e) → v ≡ g n → set (fills d f n room) n v ≡ fills d g (n + 1) room
   fills-more f g n room v l h e = rw (fills-same f g n room h, e) (upto-more g (λ i. getD room i d) (length room) n l)
 
   -- a loop's turn
-  pub fills-next : (f : ℕ → A) (i : ℕ) (room xs : List A) → xs ≡ fills f i room → i < length room → set xs i (f i) ≡ fills f (i + 1) room
+  pub fills-next : (f : ℕ → A) (i : ℕ) (room xs : List A) → xs ≡ fills d f i room → i < length room → set xs i (f i) ≡ fills d f (i + 1) room
   fills-next f i room xs e l = ap (λ zs. set zs i (f i)) e ∙ upto-more f (λ j. getD room j d) (length room) i l
 
   -- what stands in it at the places filled
-  pub fills-at : (f : ℕ → A) (n e : ℕ) (room : List A) → n ≤ length room → e < n → getD (fills f n room) e d ≡ f e
+  pub fills-at : (f : ℕ → A) (n e : ℕ) (room : List A) → n ≤ length room → e < n → getD (fills d f n room) e d ≡ f e
   fills-at f n e room l b = listed-at (upto f (λ i. getD room i d) n) (length room) e d (omega arith) ∙ rw (lt-ltb e n b)
 
   -- and past them
-  pub fills-past : (f : ℕ → A) (n e : ℕ) (room : List A) → n ≤ e → getD (fills f n room) e d ≡ getD room e d
+  pub fills-past : (f : ℕ → A) (n e : ℕ) (room : List A) → n ≤ e → getD (fills d f n room) e d ≡ getD room e d
   fills-past f n e room l = go (decLt e (length room))
     where
-      go : Dec (e < length room) → getD (fills f n room) e d ≡ getD room e d
+      go : Dec (e < length room) → getD (fills d f n room) e d ≡ getD room e d
       go (yes b) = listed-at (upto f (λ i. getD room i d) n) (length room) e d b ∙ rw (le-ltb e n l)
       go (no b) = listed-past (upto f (λ i. getD room i d) n) (length room) e d (omega arith) ∙ sym (List·getD-eq-default room d (omega arith))
 
   -- what is filled from a list that was filled so
-  pub fills-through : (f : ℕ → A) (n m : ℕ) (old room : List A) → n ≤ m → m ≤ length old → fills (λ e. getD (fills f m old) e d) n room ≡ fills f n room
-  fills-through f n m old room l k = fills-same (λ e. getD (fills f m old) e d) f n room (λ e b. fills-at f m e old k (omega arith))
+  pub fills-through : (f : ℕ → A) (n m : ℕ) (old room : List A) → n ≤ m → m ≤ length old → fills d (λ e. getD (fills d f m old) e d) n room ≡ fills d f n room
+  fills-through f n m old room l k = fills-same (λ e. getD (fills d f m old) e d) f n room (λ e b. fills-at f m e old k (omega arith))
 
   -- A loop that copies the first n entries of a list: what it keeps
   module _ (from : List A) (n : ℕ) (room₀ : List A) where
     abbrev pub Copied : List A → ℕ → Type 0
-    Copied room i = (i ≤ n) × (room ≡ fills (λ e. getD from e d) i room₀)
+    Copied room i = (i ≤ n) × (room ≡ fills d (λ e. getD from e d) i room₀)
 
     pub copied-none : Copied room₀ 0
     copied-none = (omega arith, fills-none (λ e. getD from e d) room₀)
@@ -69,7 +66,7 @@ module _ {A : Type 0} (d : A) where
       pub copied-more : i < n → n ≤ length room₀ → Copied (set room i (getD from i d)) (i + 1)
       copied-more l b = (omega arith, fills-next (λ e. getD from e d) i room₀ room (c .1) (omega arith))
 
-      pub copied-all : n ≤ i → room ≡ fills (λ e. getD from e d) n room₀
+      pub copied-all : n ≤ i → room ≡ fills d (λ e. getD from e d) n room₀
       copied-all l = let e : i ≡ n = omega (arith, c .0) in rw e at (c .1)
 
 -- Room for numbers

@@ -21,7 +21,8 @@ use Rattle.card_wiring.specs.Wired.{pinsFit, mostBack, wiredOf}
 use Rattle.inputs.specs.Inputs.{given}
 use Rattle.inputs.proofs.Verdicts.{fits-vector}
 use Rattle.card_records.specs.Written.{Bytes}
-use Rattle.card_records.proofs.Example.{exampleBytes, exampleCard, example-read}
+use Rattle.card_records.specs.Example.{exampleCard}
+use Rattle.card_records.proofs.Example.{exampleNets, example-read}
 use Rattle.card.specs.declared.Session.{Session}
 use Rattle.card.specs.Session.{none, inputsOf, sessionOf}
 use Rattle.card.proofs.Sessions.{taken-loaded, taken-sizes}
@@ -39,22 +40,22 @@ bytes-below (b ∷ s) e (suc i) = bytes-below s (and-both (ltb b 256) _ e .1) i
 -- Load
 
 pub exampleLoaded : Session
-exampleLoaded = loadOf none exampleBytes .session
+exampleLoaded = loadOf none exampleCard .session
 
 -- the card passes every test of its wiring, and has three inputs and two gates
-worked-out : (wiredOf exampleCard .verdict ≡ Passed) × (inputsOf exampleCard ≡ 3) × (length (gateOrder exampleCard) ≡ 2)
+worked-out : (wiredOf exampleNets .verdict ≡ Passed) × (inputsOf exampleNets ≡ 3) × (length (gateOrder exampleNets) ≡ 2)
 unfolding wiredOf pinsFit mostBack openPin atPin netAt longest level depth gateOrder netSteps stepList pcSet inputsOf count
 worked-out = (refl, refl, refl)
 
-pub example-load : loadOf none exampleBytes ≡ taken exampleCard
+pub example-load : loadOf none exampleCard ≡ taken exampleNets
 unfolding loadOf judged
-example-load = ap (loadMeant none) example-read ∙ rw (worked-out .1) (ap (concluded none (sessionOf exampleCard) (length exampleCard)) (worked-out .0))
+example-load = ap (loadMeant none) example-read ∙ rw (worked-out .1) (ap (concluded none (sessionOf exampleNets) (length exampleNets)) (worked-out .0))
 
 card-loaded : (exampleLoaded .loaded ≡ true) × (exampleLoaded .inputs ≡ 3) × (exampleLoaded .gates ≡ 2)
 unfolding exampleLoaded
 card-loaded =
-    let sizes = taken-sizes exampleCard in (
-      ap (λ x. x .session .loaded) example-load ∙ taken-loaded exampleCard,
+    let sizes = taken-sizes exampleNets in (
+      ap (λ x. x .session .loaded) example-load ∙ taken-loaded exampleNets,
       ap (λ x. x .session .inputs) example-load ∙ sizes .0 ∙ worked-out .1,
       ap (λ x. x .session .gates) example-load ∙ sizes .1 ∙ worked-out .2,
     )
@@ -83,7 +84,7 @@ example-vector = vector-takes exampleRested (1 ∷ 1 ∷ 0 ∷ []) (card-rested 
 
 pub witness-loaded : Good exampleLoaded × (exampleLoaded .loaded ≡ true) × (exampleLoaded .gates ≡ 2)
 unfolding exampleLoaded
-witness-loaded = (load-good none exampleBytes none-good (bytes-below exampleBytes refl), card-loaded .0, card-loaded .2)
+witness-loaded = (load-good none exampleCard none-good (bytes-below exampleCard refl), card-loaded .0, card-loaded .2)
 
 pub witness-rested : Good exampleRested × (exampleRested .rested ≡ true) × (exampleRested .gates ≡ 2)
 unfolding exampleRested

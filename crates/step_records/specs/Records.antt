@@ -3,8 +3,8 @@ use mathlib.Core.Bool.{cond}
 use mathlib.Core.List.{List}
 use Prim.Native.Nat.{ℕ}
 use lib.Dec.{leb}
-use lib.ListN.{length, getD}
-use Rattle.lists.specs.Listed.{listed, upto}
+use lib.ListN.{length}
+use Rattle.lists.specs.Filled.{fills}
 use Rattle.rule.specs.Steps.{Step, stepList, stepAt}
 use Rattle.rule.specs.declared.Refusal.the-variants.{NotReady, NoRoom}
 use Rattle.rule.specs.declared.Answer.{Answer}
@@ -22,7 +22,7 @@ stepRecord k = record { net = k .net; time = k .time }
 
 -- f 0, f 1, ..: n of them, at the front of some room; "Lent room past the part written keeps its contents."
 abbrev pub recordsIn : (ℕ → StepRecord) → ℕ → List StepRecord → List StepRecord
-recordsIn f n room = listed (upto f (λ i. getD room i blankRecord) n) (length room)
+recordsIn f n room = fills blankRecord f n room
 
 -- the list's records at the front of some room
 abbrev pub recordsPut : Session → List StepRecord → List StepRecord
