@@ -8,41 +8,39 @@ python3 tests/audit_test.py .
 room=$(mktemp -d)
 trap 'rm -rf "$room"' EXIT
 
-# copied: a copy of all that the test reads
-copied() {
-    rm -rf "$room"/*
-    mkdir "$room/crates"
-    cp -r README.md docs crates.txt host tests speed examples "$room"
-    for crate in crates/*; do
-        mkdir "$room/$crate"
-        for part in src specs proofs must-fail; do
-            if [ -d "$crate/$part" ]; then cp -r "$crate/$part" "$room/$crate/$part"; fi
-        done
+# a copy of all that the test reads; each fault is taken out of it again
+mkdir "$room/tree" "$room/tree/crates"
+cp -r README.md docs crates.txt host tests speed examples "$room/tree"
+for crate in crates/*; do
+    mkdir "$room/tree/$crate"
+    for part in src specs proofs must-fail; do
+        if [ -d "$crate/$part" ]; then cp -r "$crate/$part" "$room/tree/$crate/$part"; fi
     done
-}
+done
 
 # found WHAT EXPECTED: the test fails on the copy, and says so
 seen=0
 found() {
-    if python3 tests/audit_test.py "$room" >"$room/out"; then echo "audit: $1 was not found" >&2; return 1; fi
+    if python3 tests/audit_test.py "$room/tree" >"$room/out"; then echo "audit: $1 was not found" >&2; return 1; fi
     grep -qF "$2" "$room/out" || { echo "audit: $1 was not found as '$2'" >&2; return 1; }
     seen=$((seen + 1))
 }
 
 # seeded FILE SED EXPECTED: a file is changed
 seeded() {
-    copied
-    sed -i "$2" "$room/$1"
-    ! cmp -s "$1" "$room/$1" || { echo "audit: $2 changes nothing in $1" >&2; return 1; }
+    sed -i "$2" "$room/tree/$1"
+    ! cmp -s "$1" "$room/tree/$1" || { echo "audit: $2 changes nothing in $1" >&2; return 1; }
     found "$2 in $1" "$3"
+    cp "$1" "$room/tree/$1"
 }
 
 # moved FILE TO EXPECTED: a file stands elsewhere
 moved() {
-    copied
-    mkdir -p "$room/$(dirname "$2")"
-    mv "$room/$1" "$room/$2"
+    mkdir -p "$room/tree/$(dirname "$2")"
+    mv "$room/tree/$1" "$room/tree/$2"
     found "$1 at $2" "$3"
+    mv "$room/tree/$2" "$room/tree/$1"
+    rmdir "$room/tree/$(dirname "$2")"
 }
 
 seeded crates/rule/specs/Flag.antt 's/^unfoldable pub flagOf/unfoldable pub flagIs/' 'does not have flagIs (rule/specs/Flag.antt)'
@@ -61,7 +59,7 @@ seeded crates/demands/proofs/Demands.antt '0,/^use /s//use Rattle.trace.specs.
 seeded crates/demands/proofs/Results.antt '0,/^use /s//use Rattle.trace.specs.Inner.Caused\n&/' 'the demands speak of inner definitions (Results.antt)'
 seeded crates/trace/src/lib.rt 's/⌜ Good s ⌝/⌜ Readable s ⌝/' 'the contract of trace::trace speaks of Readable, which is inner'
 seeded docs/CONTRACTS.md 's/^| `trace` (trace) |/| `traced` (trace) |/' 'has the operation trace::traced, and there are 0'
-seeded crates/text/specs/Inner/Put.antt 's/`put-then` (text/`put-then` (tests/' 'text/specs/Inner/Put.antt names no law that ties it'
+seeded crates/text/specs/Inner/Put.antt 's/`put-then`/put-then/' 'text/specs/Inner/Put.antt names no law that ties it'
 moved crates/gate/specs/Gate.antt crates/gate/specs/Other/Gate.antt 'gate/specs has a folder, Other'
 seeded crates/gate/specs/Inner/Pins.antt '1s/Inner: //' 'gate/specs/Inner/Pins.antt does not say that it is inner'
 seeded crates/gate/proofs/Pins.antt 's/gate-by-pins/gate-of-pins/' 'is tied by gate-by-pins (gate/proofs/Pins.antt), which is not there'
@@ -82,4 +80,5 @@ seeded docs/REQUESTS.md 's,(rule/proofs/Numbers.antt),(rule/proofs/Number.antt),
 seeded crates.txt '/^text:/d' 'crates.txt does not have text'
 seeded host/krasvome.h 's/define KRASVOME_SESSION /&1/' 'host/krasvome.h does not say that a session has'
 seeded crates/host_made/src/lib.rt 's/OLDER_AT + older/259 + older/' 'host_made/src/lib.rt writes 259 out'
+python3 tests/audit_test.py "$room/tree" >/dev/null
 echo "audit: $seen seeded faults found"
