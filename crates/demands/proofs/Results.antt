@@ -32,11 +32,11 @@ use Rattle.step_list.proofs.list as list-fn
 use Rattle.step_run.proofs.vector_steps as steps-fn
 use Rattle.step_records.proofs.list_records as records-fn
 use Rattle.bench.proofs.bench as bench-fn
-use Rattle.sheet_text.specs.declared.Sheet.{Sheet}
-use Rattle.sheet_text.specs.Pieces.{Standing, fresh, pieceOf, Written, written, isOver}
-use Rattle.sheet_text.proofs.begin as begin-fn
-use Rattle.sheet_text.proofs.next as next-fn
-use Rattle.sheet_text.proofs.is_over as over-fn
+use Rattle.sheet_pieces.specs.declared.Sheet.{Sheet}
+use Rattle.sheet_pieces.specs.Pieces.{Standing, fresh, pieceOf, Written, written, isOver}
+use Rattle.sheet_pieces.proofs.begin as begin-fn
+use Rattle.sheet_pieces.proofs.next as next-fn
+use Rattle.sheet_pieces.proofs.is_over as over-fn
 use Rattle.operations.specs.declared.Engine.{Engine}
 use Rattle.operations.specs.declared.Engine.the-variants.{Fields, Steps}
 use Rattle.operations.specs.declared.Move.{Move}

@@ -16,9 +16,9 @@ fn write_front(out: &[u8], n: usize) -> bool
 fn write_sheet(file: &[u8], out: &mut [u8; 20480])
     requires { ⌜ length (now out) ≡ 20480 ⌝ }
 {
-    let mut sheet = sheet_text::begin();
-    while !sheet_text::is_over(sheet) {
-        let piece = sheet_text::next(sheet, file, out);
+    let mut sheet = sheet_pieces::begin();
+    while !sheet_pieces::is_over(sheet) {
+        let piece = sheet_pieces::next(sheet, file, out);
         if !write_front(out, piece.length) {
             return;
         }

@@ -1,4 +1,3 @@
 pub mod Lines
 pub mod Walk
 pub mod Sheet
-pub mod Pieces

@@ -6,10 +6,10 @@ use native.Mathlib.Omega.{arith}
 use lib.ListN.{length}
 use borrow.Author.Tests.{not-true}
 use borrow.Author.Needs.{needs}
-use Rattle.sheet_text.specs.Pieces.{pieceOf, Standing}
-use Rattle.sheet_text.proofs.Left.{left}
-use Rattle.sheet_text.proofs.Standing.{going-falls}
-use Rattle.sheet_text.proofs.Fits.{page-stays, sheet-after}
+use Rattle.sheet_pieces.specs.Pieces.{pieceOf, Standing}
+use Rattle.sheet_pieces.proofs.Left.{left}
+use Rattle.sheet_pieces.proofs.Standing.{going-falls}
+use Rattle.sheet_pieces.proofs.Fits.{page-stays, sheet-after}
 use Rattle.sheet.proofs.write_sheet.Statement.{statement}
 use Rattle.sheet.proofs.write_sheet.Tie as tie
 

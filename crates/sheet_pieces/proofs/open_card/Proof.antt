@@ -1,13 +1,13 @@
--- `sheet_text::open_card` meets its contract: the tests, and then what load answers. Assumes nothing.
+-- `sheet_pieces::open_card` meets its contract: the tests, and then what load answers. Assumes nothing.
 use mathlib.Core.Path.{_≡_, sym, _∙_}
 use native.Mathlib.Omega.{arith}
 use lib.Seq.{length-take-le}
 use Rattle.card.proofs.Verdicts.{load-holds}
-use Rattle.sheet_text.specs.Pieces.{loadedPiece, cardPiece}
-use Rattle.sheet_text.proofs.Steps.{hand-on, refused-so, done-so, card-long, card-loads, bytes-front}
+use Rattle.sheet_pieces.specs.Pieces.{loadedPiece, cardPiece}
+use Rattle.sheet_pieces.proofs.Steps.{hand-on, refused-so, done-so, card-long, card-loads, bytes-front}
 use borrow.Author.Needs.{needs}
-use Rattle.sheet_text.proofs.open_card.Statement.{statement}
-use Rattle.sheet_text.proofs.open_card.Tie as tie
+use Rattle.sheet_pieces.proofs.open_card.Statement.{statement}
+use Rattle.sheet_pieces.proofs.open_card.Tie as tie
 
 -- the function's entry, from where the card is loaded
 abbrev entry : tie.After-load → tie.Start

@@ -1,5 +1,5 @@
 -- The pieces of a sheet, as `next` hands them out one after another, and what a program that writes them has written. Document 01 knows the sheet alone
--- (`sheetOf`); joined the pieces are the sheet: `sheet-pieces`, `sheet-written` (sheet_text/proofs/Pieces.antt). Assumes nothing.
+-- (`sheetOf`); joined the pieces are the sheet: `sheet-pieces`, `sheet-written` (sheet_pieces/proofs/Pieces.antt). Assumes nothing.
 use mathlib.Core.Path.{_≡_}
 use mathlib.Core.Bool.{Bool, true, false, cond}
 use mathlib.Core.List.{List, [], _++_}
@@ -19,14 +19,14 @@ use Rattle.card.specs.Load.{loadOf}
 use Rattle.session.specs.declared.Moved.{Moved}
 use Rattle.session.specs.Good.{Good}
 use Rattle.session.specs.Moves.{restOf, vectorOf}
 use Rattle.sheet_text.specs.declared.Entry.{Entry}
 use Rattle.sheet_text.specs.declared.Entry.the-variants.{Nothing, Bad, Rest, Vector}
-use Rattle.sheet_text.specs.declared.Stage.{Stage}
-use Rattle.sheet_text.specs.declared.Stage.the-variants.{Fresh, Going, Over}
-use Rattle.sheet_text.specs.declared.Sheet.{Sheet}
-use Rattle.sheet_text.specs.declared.Piece.{Piece}
+use Rattle.sheet_pieces.specs.declared.Stage.{Stage}
+use Rattle.sheet_pieces.specs.declared.Stage.the-variants.{Fresh, Going, Over}
+use Rattle.sheet_pieces.specs.declared.Sheet.{Sheet}
+use Rattle.sheet_pieces.specs.declared.Piece.{Piece}
 use Rattle.sheet_text.specs.Lines.{refusedLine, cardText, vectorText}
 use Rattle.sheet_text.specs.Walk.{cardEnd, entryAt, body}
 
 -- a sheet of which nothing is written yet
 unfoldable pub fresh : Sheet

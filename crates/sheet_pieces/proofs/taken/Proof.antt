@@ -1,14 +1,14 @@
--- `sheet_text::taken` meets its contract. Assumes nothing.
+-- `sheet_pieces::taken` meets its contract. Assumes nothing.
 use mathlib.Core.Path.{_≡_, _∙_}
 use Rattle.rule.specs.Level.{depth}
 use Rattle.card.specs.Session.{cardOf}
 use Rattle.card.proofs.Kept.{loaded-is, depth-loaded}
-use Rattle.sheet_text.specs.declared.Stage.the-variants.{Going}
+use Rattle.sheet_pieces.specs.declared.Stage.the-variants.{Going}
 use Rattle.sheet_text.specs.Lines.{cardText}
-use Rattle.sheet_text.specs.Pieces.{opened}
-use Rattle.sheet_text.proofs.Steps.{hand-back}
-use Rattle.sheet_text.proofs.taken.Statement.{statement}
-use Rattle.sheet_text.proofs.taken.Tie as tie
+use Rattle.sheet_pieces.specs.Pieces.{opened}
+use Rattle.sheet_pieces.proofs.Steps.{hand-back}
+use Rattle.sheet_pieces.proofs.taken.Statement.{statement}
+use Rattle.sheet_pieces.proofs.taken.Tie as tie
 
 depth-of-requires : tie.Need-depth-of-requires
 depth-of-requires c κs l = c .pre

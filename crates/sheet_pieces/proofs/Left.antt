@@ -2,9 +2,9 @@
 use mathlib.Core.List.{List}
 use Prim.Native.Nat.{ℕ, _+_, _-_}
 use lib.ListN.{length}
-use Rattle.sheet_text.specs.declared.Sheet.{Sheet}
-use Rattle.sheet_text.specs.declared.Stage.{Stage}
-use Rattle.sheet_text.specs.declared.Stage.the-variants.{Fresh, Going, Over}
+use Rattle.sheet_pieces.specs.declared.Sheet.{Sheet}
+use Rattle.sheet_pieces.specs.declared.Stage.{Stage}
+use Rattle.sheet_pieces.specs.declared.Stage.the-variants.{Fresh, Going, Over}
 
 -- a number that falls with each piece until the sheet is over: of so many bytes, so many are left
 abbrev pub leftAt : Stage → ℕ → ℕ → ℕ

@@ -31,18 +31,18 @@ use Rattle.session.specs.Moves.{restOf, vectorOf}
 use Rattle.session.proofs.Kept.{vector-good, vector-rests}
 use Rattle.history.proofs.Ran.{holds}
 use Rattle.text.specs.Text.{named}
 use Rattle.sheet_text.specs.declared.Entry.{Entry}
 use Rattle.sheet_text.specs.declared.Entry.the-variants.{Nothing, Bad, Rest, Vector}
-use Rattle.sheet_text.specs.declared.Stage.{Stage}
-use Rattle.sheet_text.specs.declared.Stage.the-variants.{Fresh, Going, Over}
-use Rattle.sheet_text.specs.declared.Sheet.{Sheet}
-use Rattle.sheet_text.specs.declared.Piece.{Piece}
+use Rattle.sheet_pieces.specs.declared.Stage.{Stage}
+use Rattle.sheet_pieces.specs.declared.Stage.the-variants.{Fresh, Going, Over}
+use Rattle.sheet_pieces.specs.declared.Sheet.{Sheet}
+use Rattle.sheet_pieces.specs.declared.Piece.{Piece}
 use Rattle.sheet_text.specs.Lines.{blank, lf, depthWord, stepsWord, vectorWord, refusedLine, firstLine, historyLine, cardText, vectorText}
 use Rattle.sheet_text.specs.Walk.{cardEnd, entryAt, body}
-use Rattle.sheet_text.specs.Pieces.{Portion, refusedPiece, pieceUnless, loadedPiece, cardPiece, entryPiece, pieceAt, pieceOf, Written, written, Standing}
+use Rattle.sheet_pieces.specs.Pieces.{Portion, refusedPiece, pieceUnless, loadedPiece, cardPiece, entryPiece, pieceAt, pieceOf, Written, written, Standing}
 use Rattle.sheet_text.proofs.Lengths.{byte-short, word-short, line-short}
-use Rattle.sheet_text.proofs.Steps.{bytes-front}
-use Rattle.sheet_text.proofs.Standing.{Placed, entry-placed, piece-stands}
+use Rattle.sheet_pieces.proofs.Steps.{bytes-front}
+use Rattle.sheet_pieces.proofs.Standing.{Placed, entry-placed, piece-stands}
 
 -- a before value and a flag are bytes
 val-low : (b : Bool) → val b < 256

@@ -1,9 +1,9 @@
--- `sheet_text::refused` meets its contract. Assumes nothing.
-use Rattle.sheet_text.specs.Pieces.{refusedPiece}
-use Rattle.sheet_text.proofs.Steps.{hand-back}
+-- `sheet_pieces::refused` meets its contract. Assumes nothing.
+use Rattle.sheet_pieces.specs.Pieces.{refusedPiece}
+use Rattle.sheet_pieces.proofs.Steps.{hand-back}
 use borrow.Author.Needs.{needs}
-use Rattle.sheet_text.proofs.refused.Statement.{statement}
-use Rattle.sheet_text.proofs.refused.Tie as tie
+use Rattle.sheet_pieces.proofs.refused.Statement.{statement}
+use Rattle.sheet_pieces.proofs.refused.Tie as tie
 
 put-refused-requires : tie.Need-put-refused-requires
 put-refused-requires c κs = search needs

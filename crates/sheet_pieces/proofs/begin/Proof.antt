@@ -1,12 +1,12 @@
--- `sheet_text::begin` meets its contract. Assumes nothing.
+-- `sheet_pieces::begin` meets its contract. Assumes nothing.
 use mathlib.Core.Path.{_≡_, sym, subst}
-use Rattle.sheet_text.specs.declared.Sheet.{Sheet}
-use Rattle.sheet_text.specs.declared.Stage.the-variants.{Fresh}
-use Rattle.sheet_text.specs.Pieces.{fresh, Standing}
-use Rattle.sheet_text.proofs.Standing.{fresh-stands}
+use Rattle.sheet_pieces.specs.declared.Sheet.{Sheet}
+use Rattle.sheet_pieces.specs.declared.Stage.the-variants.{Fresh}
+use Rattle.sheet_pieces.specs.Pieces.{fresh, Standing}
+use Rattle.sheet_pieces.proofs.Standing.{fresh-stands}
 use borrow.Author.Needs.{needs}
-use Rattle.sheet_text.proofs.begin.Statement.{statement}
-use Rattle.sheet_text.proofs.begin.Tie as tie
+use Rattle.sheet_pieces.proofs.begin.Statement.{statement}
+use Rattle.sheet_pieces.proofs.begin.Tie as tie
 
 empty-requires : tie.Need-empty-requires
 empty-requires c κs = search needs

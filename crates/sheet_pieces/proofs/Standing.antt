@@ -20,15 +20,15 @@ use Rattle.card.specs.Load.{loadOf}
 use Rattle.session.specs.Good.{Good}
 use Rattle.session.specs.Moves.{restOf, vectorOf}
 use Rattle.session.proofs.Kept.{none-good, load-good, rest-good, vector-good, rest-card, vector-card}
 use Rattle.sheet_text.specs.declared.Entry.{Entry}
 use Rattle.sheet_text.specs.declared.Entry.the-variants.{Nothing, Bad, Rest, Vector}
-use Rattle.sheet_text.specs.declared.Stage.{Stage}
-use Rattle.sheet_text.specs.declared.Stage.the-variants.{Fresh, Going, Over}
-use Rattle.sheet_text.specs.declared.Sheet.{Sheet}
+use Rattle.sheet_pieces.specs.declared.Stage.{Stage}
+use Rattle.sheet_pieces.specs.declared.Stage.the-variants.{Fresh, Going, Over}
+use Rattle.sheet_pieces.specs.declared.Sheet.{Sheet}
 use Rattle.sheet_text.specs.Walk.{cardEnd, entryIn, entryAt, body}
-use Rattle.sheet_text.specs.Pieces.{fresh, ended, movedSheet, Portion, refusedPiece, pieceUnless, loadedPiece, cardPiece, entryPiece, pieceAt, pieceOf, Standing, isOver}
-use Rattle.sheet_text.proofs.Left.{leftAt, left}
-use Rattle.sheet_text.proofs.Steps.{bytes-front}
+use Rattle.sheet_pieces.specs.Pieces.{fresh, ended, movedSheet, Portion, refusedPiece, pieceUnless, loadedPiece, cardPiece, entryPiece, pieceAt, pieceOf, Standing, isOver}
+use Rattle.sheet_pieces.proofs.Left.{leftAt, left}
+use Rattle.sheet_pieces.proofs.Steps.{bytes-front}
 
 -- a rest or a vector is whole: it ends after its head, and inside the file
 abbrev pub Placed : ℕ → ℕ → Entry → Type 0

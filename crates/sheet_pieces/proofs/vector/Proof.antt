@@ -1,4 +1,4 @@
--- `sheet_text::vector` meets its contract: by what the session's vector answers. Assumes nothing.
+-- `sheet_pieces::vector` meets its contract: by what the session's vector answers. Assumes nothing.
 use mathlib.Core.Path.{refl, sym, ap, subst, _∙_}
 use Prim.Native.Nat.{_+_}
 use native.Mathlib.Omega.{arith}
@@ -6,12 +6,12 @@ use Rattle.rule.specs.Level.{depth}
 use Rattle.card.specs.Session.{cardOf}
 use Rattle.session.specs.Good.{Good}
 use Rattle.session.proofs.Kept.{vector-good, vector-card, vector-rests}
 use Rattle.sheet_text.specs.Lines.{vectorText}
-use Rattle.sheet_text.specs.Pieces.{movedSheet, vectorPiece}
-use Rattle.sheet_text.proofs.Steps.{hand-back, hand-on, refused-so, done-so}
+use Rattle.sheet_pieces.specs.Pieces.{movedSheet, vectorPiece}
+use Rattle.sheet_pieces.proofs.Steps.{hand-back, hand-on, refused-so, done-so}
 use borrow.Author.Needs.{needs}
-use Rattle.sheet_text.proofs.vector.Statement.{statement}
-use Rattle.sheet_text.proofs.vector.Tie as tie
+use Rattle.sheet_pieces.proofs.vector.Statement.{statement}
+use Rattle.sheet_pieces.proofs.vector.Tie as tie
 
 vector-requires : tie.Need-vector-requires
 vector-requires c κs = search needs

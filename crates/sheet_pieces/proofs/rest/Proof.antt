@@ -1,12 +1,12 @@
--- `sheet_text::rest` meets its contract: by what the session's rest answers. Assumes nothing.
+-- `sheet_pieces::rest` meets its contract: by what the session's rest answers. Assumes nothing.
 use mathlib.Core.Path.{refl, ap, _∙_}
 use mathlib.Core.List.{[]}
 use Rattle.text.proofs.Texts.{put-none}
-use Rattle.sheet_text.specs.Pieces.{movedSheet, restPiece}
-use Rattle.sheet_text.proofs.Steps.{hand-back, hand-on, refused-so, done-so}
+use Rattle.sheet_pieces.specs.Pieces.{movedSheet, restPiece}
+use Rattle.sheet_pieces.proofs.Steps.{hand-back, hand-on, refused-so, done-so}
 use borrow.Author.Needs.{needs}
-use Rattle.sheet_text.proofs.rest.Statement.{statement}
-use Rattle.sheet_text.proofs.rest.Tie as tie
+use Rattle.sheet_pieces.proofs.rest.Statement.{statement}
+use Rattle.sheet_pieces.proofs.rest.Tie as tie
 
 rest-requires : tie.Need-rest-requires
 rest-requires c κs = search needs

@@ -1,18 +1,18 @@
--- `sheet_text::next_record` meets its contract: by what stands at the place. Assumes nothing.
+-- `sheet_pieces::next_record` meets its contract: by what stands at the place. Assumes nothing.
 use mathlib.Core.Path.{_≡_, sym, ap, subst, _∙_}
 use mathlib.Core.List.{List}
 use Prim.Native.Nat.{ℕ}
 use native.Mathlib.Omega.{arith}
 use lib.ListN.{length}
 use Rattle.sheet_text.specs.declared.Entry.{Entry}
 use Rattle.sheet_text.specs.declared.Entry.the-variants.{Rest, Vector}
-use Rattle.sheet_text.specs.Pieces.{entryPiece}
+use Rattle.sheet_pieces.specs.Pieces.{entryPiece}
 use Rattle.text.proofs.Texts.{put-none}
-use Rattle.sheet_text.proofs.Steps.{hand-back, hand-on}
-use Rattle.sheet_text.proofs.Standing.{Placed, entry-placed}
+use Rattle.sheet_pieces.proofs.Steps.{hand-back, hand-on}
+use Rattle.sheet_pieces.proofs.Standing.{Placed, entry-placed}
 use borrow.Author.Needs.{needs}
-use Rattle.sheet_text.proofs.next_record.Statement.{statement}
-use Rattle.sheet_text.proofs.next_record.Tie as tie
+use Rattle.sheet_pieces.proofs.next_record.Statement.{statement}
+use Rattle.sheet_pieces.proofs.next_record.Tie as tie
 
 -- the file and the place, and that a rest, or a vector, is whole
 

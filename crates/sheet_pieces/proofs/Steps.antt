@@ -17,10 +17,10 @@ use Rattle.card.specs.declared.Loaded.{Loaded}
 use Rattle.card.specs.Session.{none}
 use Rattle.card.specs.Load.{loadOf}
 use Rattle.text.specs.Inner.Put.{Put}
-use Rattle.sheet_text.specs.declared.Sheet.{Sheet}
-use Rattle.sheet_text.specs.declared.Stage.{Stage}
+use Rattle.sheet_pieces.specs.declared.Sheet.{Sheet}
+use Rattle.sheet_pieces.specs.declared.Stage.{Stage}
 use Rattle.sheet_text.specs.Walk.{cardEnd}
-use Rattle.sheet_text.specs.Pieces.{Portion, Written, refusedPiece, pieceUnless, loadedPiece, cardPiece, pieceAt, pieceOf, written}
+use Rattle.sheet_pieces.specs.Pieces.{Portion, Written, refusedPiece, pieceUnless, loadedPiece, cardPiece, pieceAt, pieceOf, written}
 
 -- a text put at the front of the page, and the sheet after it
 pub hand-back : (p : Portion) {sheet : Sheet} {old new : List ℕ} {n : ℕ} → sheet ≡ p .after → Put (p .text) old 0 new n

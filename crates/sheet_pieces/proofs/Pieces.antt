@@ -17,18 +17,18 @@ use Rattle.card.specs.declared.Loaded.{Loaded}
 use Rattle.card.specs.Session.{none, cardOf}
 use Rattle.card.specs.Load.{loadOf}
 use Rattle.session.specs.Moves.{restOf, vectorOf}
 use Rattle.sheet_text.specs.declared.Entry.{Entry}
 use Rattle.sheet_text.specs.declared.Entry.the-variants.{Nothing, Bad, Rest, Vector}
-use Rattle.sheet_text.specs.declared.Stage.{Stage}
-use Rattle.sheet_text.specs.declared.Stage.the-variants.{Fresh, Going, Over}
-use Rattle.sheet_text.specs.declared.Sheet.{Sheet}
+use Rattle.sheet_pieces.specs.declared.Stage.{Stage}
+use Rattle.sheet_pieces.specs.declared.Stage.the-variants.{Fresh, Going, Over}
+use Rattle.sheet_pieces.specs.declared.Sheet.{Sheet}
 use Rattle.sheet_text.specs.Lines.{cardText, vectorText}
 use Rattle.sheet_text.specs.Walk.{cardEnd, entryAt, body}
 use Rattle.sheet_text.specs.Sheet.{unlessRefused, entryText, recordsText, loadedText, sheetOf}
-use Rattle.sheet_text.specs.Pieces.{fresh, ended, Portion, refusedPiece, pieceUnless, loadedPiece, cardPiece, entryPiece, pieceAt, pieceOf, written, texts, wrote, afterPieces, Standing}
-use Rattle.sheet_text.proofs.Left.{leftAt, left}
-use Rattle.sheet_text.proofs.Standing.{Placed, entry-placed, entry-past, fresh-stands, piece-stands, piece-falls}
-use Rattle.sheet_text.proofs.Fits.{piece-fits, piece-read, page-stays, sheet-after}
+use Rattle.sheet_pieces.specs.Pieces.{fresh, ended, Portion, refusedPiece, pieceUnless, loadedPiece, cardPiece, entryPiece, pieceAt, pieceOf, written, texts, wrote, afterPieces, Standing}
+use Rattle.sheet_pieces.proofs.Left.{leftAt, left}
+use Rattle.sheet_pieces.proofs.Standing.{Placed, entry-placed, entry-past, fresh-stands, piece-stands, piece-falls}
+use Rattle.sheet_pieces.proofs.Fits.{piece-fits, piece-read, page-stays, sheet-after}
 
 module _ (file : List ℕ) where
   -- a sheet that is over says no more

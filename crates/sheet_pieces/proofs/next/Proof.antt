@@ -1,12 +1,12 @@
--- `sheet_text::next` meets its contract: by how the sheet stands. Assumes nothing.
+-- `sheet_pieces::next` meets its contract: by how the sheet stands. Assumes nothing.
 use mathlib.Core.Path.{refl}
 use native.Mathlib.Omega.{arith}
 use Rattle.text.proofs.Texts.{put-none}
-use Rattle.sheet_text.proofs.Steps.{hand-back, hand-on, piece-at}
-use Rattle.sheet_text.proofs.Fits.{piece-kept}
+use Rattle.sheet_pieces.proofs.Steps.{hand-back, hand-on, piece-at}
+use Rattle.sheet_pieces.proofs.Fits.{piece-kept}
 use borrow.Author.Needs.{needs}
-use Rattle.sheet_text.proofs.next.Statement.{statement}
-use Rattle.sheet_text.proofs.next.Tie as tie
+use Rattle.sheet_pieces.proofs.next.Statement.{statement}
+use Rattle.sheet_pieces.proofs.next.Tie as tie
 
 enum-told : tie.Need-enum-told
 enum-told c = search needs
