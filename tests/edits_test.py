@@ -1,10 +1,14 @@
 """That each must-fail edit was refused at the fact that its file names, and not for a name or for the code's shape: `edits_test.py ROOT`, after `rt ci`, which leaves what
-the checker said of each in target/must-fail. The first refusal that is not the consequence of another has to be in one of the wordings that the checker has for a
-statement that it cannot prove, and one of the refusals has to be the need of a function's proof, or the law, that the edit's file names after `at:`. Whether that statement
-is false, or true and only unproved, no test can tell: that was read (docs/CONTRACTS.md). `edits_test.py ROOT facts EDIT` prints the facts at which an edit was refused."""
+the checker said of each file in target/must-fail. Of an edit that stands alone the first refusal that is not the consequence of another has to be in one of the wordings
+that the checker has for a statement that it cannot prove; of one among several the first refusal in the proof that it names. And one of these has to be the need of a
+function's proof, or the law, that it names after `at:`. Whether that statement is false, or true and only unproved, no test can tell: that was read (docs/CONTRACTS.md).
+Several edits of one file have to be in functions of their own. `edits_test.py ROOT facts CRATE/FILE` prints the facts at which a file's edits were refused."""
+import collections
 import pathlib
 import re
 import sys
+
+from must_fail import edits
 
 root = pathlib.Path(sys.argv[1])
 unproved = re.compile(r"the two (?:types|values) |expected type .* but this has type |expected type .*≡|`omega`: the goal does not follow|`search`: no proof of|give a proof of that as the last argument")
@@ -22,10 +26,18 @@ def messages(log):
     return found
 
 
-def fault(log):
-    """What is wrong with a refusal; nothing: it stands at a need or a law."""
-    for said in messages(log):
-        if "it is not proved that" in said:
+def own(said, fact):
+    """Whether a message is about the proof that a fact is of."""
+    of = re.fullmatch(r"`[^`]*` of `(\w+)`", fact)
+    if of:
+        return re.match(rf"\S*/proofs/(?:\S*/)?{of.group(1)}/Proof\.antt:", said) or re.match(rf"fn (?:\w+::)*{of.group(1)}: no proof: ", said)
+    return said.partition(":")[0].endswith("/" + fact.rpartition("(")[2].rstrip(")").partition("/")[2])
+
+
+def fault(told):
+    """What is wrong with a refusal, by the messages about it; nothing: it stands at a need or a law."""
+    for said in told:
+        if "it is not proved that" in said or "`search` does not close" in said:
             return None
         if ": error: " in said and "was not admitted" not in said:
             return said if shape.search(said) or not unproved.search(said) else None
@@ -52,7 +64,7 @@ for fact in (
     "p/Proof.antt:1:1: error: `few`: `omega`: the goal does not follow from what it read. All of that holds, and the goal fails, at `n` = 256",
     "p/Proof.antt:1:1: error: `keep-spec`: `close` was not admitted (it has holes), so this cannot be checked\nnote: src/lib.rt:1:1: it is not proved that what the function ensures holds",
 ):
-    assert fault(fact) is None, fact
+    assert fault(messages(fact)) is None, fact
 for other in (
     "note: what antt said",
     "p/Proof.antt:10:39: error: `returns`: record `Lts.After-shared-slice-known`\n  has no field `args`",
@@ -62,7 +74,7 @@ for other in (
     "p/Proof.antt:25:74: error: `advance-requires`: this tuple has 2 components but its type has 3",
     "p/Proof.antt:55:5: error: `keep-spec`: `close` was not admitted (it has holes), so this cannot be checked\nfn host_bytes::mark: no proof: expected `mark-spec`",
 ):
-    assert fault(other), other
+    assert fault(messages(other)), other
 assert facts("/r/card/proofs/judge/Proof.antt:19:166: error: `returns`: the two types\n/r/card/proofs/Kept.antt:1:1: error: `steps-loaded`: the two types", "card") == [
     "`returns` of `judge`",
     "`steps-loaded` (card/proofs/Kept.antt)",
@@ -70,26 +82,45 @@ assert facts("/r/card/proofs/judge/Proof.antt:19:166: error: `returns`: the two 
 assert facts("fn host_bytes::mark: no proof: expected `mark-spec` in p; `search` does not close `returns`, `returns-2`; it calls", "c") == ["`returns` of `mark`", "`returns-2` of `mark`"]
 
 
-def log_of(crate, label):
-    log = root / "target" / "must-fail" / crate / label / ".log"
+two = messages(
+    "/r/word/x/proofs/pcset/PcSet/least/Proof.antt:6:13: error: `returns`: the two types differ\n/r/word/x/proofs/most/Proof.antt:1:1: error: `returns`: record `Lts.After` has no field `args`"
+    "\n/r/word/x/proofs/Bits.antt:1:1: error: `bit-low`: the two types differ\nfn word::has: no proof: expected `has-spec`; `search` does not close `returns`"
+)
+for fact, right in (("`returns` of `least`", 1), ("`returns` of `most`", 0), ("`bit-low` (word/proofs/Bits.antt)", 1), ("`returns` of `has`", 1), ("`returns` of `size`", 0)):
+    assert (fault([said for said in two if own(said, fact)]) is None) == right, fact
+
+
+def log_of(crate, file):
+    log = root / "target" / "must-fail" / crate / file / ".log"
     return log.read_text(encoding="utf-8") if log.exists() else ""
 
 
 if sys.argv[2:3] == ["facts"]:
-    crate, label = sys.argv[3].split("/")
-    print("\n".join(facts(log_of(crate, label), crate)))
+    crate, file = sys.argv[3].split("/")
+    print("\n".join(facts(log_of(crate, file), crate)))
     sys.exit()
 faults = 0
-edits = sorted(root.glob("crates/*/must-fail/*.edit"))
-for edit in edits:
-    crate, label = edit.parts[-3], edit.stem
-    text = log_of(crate, label)
-    said = fault(text) if text else "it was not tried: run rt ci"
-    named = re.search(r"^at: (.*)$", edit.read_text(encoding="utf-8"), flags=re.M)
-    if not said and (not named or named.group(1) not in facts(text, crate)):
-        said = f"it is not refused at {named.group(1) if named else 'a fact that its file names'}, but at {', '.join(facts(text, crate)[:3])}"
-    if said:
-        print(f"edits: {crate}/{label}: {said}")
+found = edits(sorted((root / "crates").iterdir()))
+together = collections.Counter((crate, file) for crate, file, _ in found)
+places = set()
+for crate, file, said in found:
+    text, fact, wrong = log_of(crate, file), said.get("at", "a fact that its file names"), None
+    if not text:
+        wrong = "it was not tried: run rt ci"
+    elif together[crate, file] == 1:
+        wrong = fault(messages(text))
+    else:
+        code = (root / "crates" / crate / said["file"]).read_text(encoding="utf-8")
+        place = re.findall(r"^ *(?:pub )?(?:(?:extern \"C\" )?fn|const) (\w+)", code[: code.index(said["old"])], flags=re.M)[-1]
+        if not said["file"].startswith("src/") or (crate, file, said["file"], place) in places:
+            wrong = f"it is not in a function of its own, but in {place}"
+        places.add((crate, file, said["file"], place))
+        if not wrong and fact in facts(text, crate):
+            wrong = fault([message for message in messages(text) if own(message, fact)])
+    if not wrong and fact not in facts(text, crate):
+        wrong = f"it is not refused at {fact}, but at {', '.join(facts(text, crate)[:3])}"
+    if wrong:
+        print(f"edits: {crate}/{said.get('name', file)}: {wrong}")
         faults += 1
-print(f"edits: {len(edits) - faults} of {len(edits)} refused at the need or the law that its file names")
+print(f"edits: {len(found) - faults} of {len(found)} refused at the need or the law that is named, in {len(together)} checks")
 sys.exit(bool(faults))
