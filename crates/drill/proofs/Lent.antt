@@ -10,7 +10,7 @@ use Rattle.rule.specs.declared.Answer.the-variants.{Refused}
 use Rattle.card.specs.declared.Session.{Session}
 use Rattle.step_records.specs.Records.{recordsOf}
 use Rattle.step_records.proofs.Listings.{records-refused}
-use Rattle.drill_text.specs.Filled.{Filled}
+use Rattle.drill_words.specs.Filled.{Filled}
 use Rattle.drill.specs.Inner.Rooms.{lentRecord, lentRecords, recordedIn}
 
 -- the first n entries of `[v; k]` are n

@@ -3,9 +3,9 @@ ghost use mathlib.Core.Path.{_≡_};
 ghost use mathlib.Core.List.{[]};
 ghost use Prim.Native.Nat.{_≤_};
 ghost use lib.ListN.{length, getD};
-ghost use Rattle.drill_text.specs.Parts.{words};
-ghost use Rattle.drill_text.specs.Digits.{bytesOf};
-ghost use Rattle.drill_text.specs.Filled.{Filled};
+ghost use Rattle.drill_words.specs.Parts.{words};
+ghost use Rattle.drill_words.specs.Digits.{bytesOf};
+ghost use Rattle.drill_words.specs.Filled.{Filled};
 ghost use Rattle.drill.specs.Inner.Kept.{Kept};
 ghost use Rattle.drill.specs.Inner.Rooms.{recordedIn};
 use crate::Turn;
@@ -27,7 +27,7 @@ fn bytes_of(line: &[u8], bytes: &mut [u8]) -> usize
     requires { ⌜ 70000 ≤ length (now bytes) ⌝ }
     ensures { λ r. ⌜ Filled (bytesOf (getD (words (now (line .entry))) 1 [])) (now (bytes .entry)) (now (bytes .exit)) r ⌝ }
 {
-    drill_text::hex_into(drill_text::word(line, 1), bytes)
+    drill_words::hex_into(drill_words::word(line, 1), bytes)
 }
 
 // An operation that takes bytes; it keeps what sessions keep.
@@ -249,7 +249,7 @@ fn order_line(
     requires { ⌜ 140001 ≤ length (now entries) ⌝ }
     ensures { λ r. ⌜ Kept (r .session) ⌝ }
 {
-    let n = drill_text::order_into(drill_text::word(line, 2), entries);
+    let n = drill_words::order_into(drill_words::word(line, 2), entries);
     put_bench(session, v, &entries[..n], k, room, out, at)
 }
 

@@ -6,7 +6,7 @@ use native.Mathlib.Omega.{arith}
 use lib.ListN.{length, getD}
 use borrow.Author.Tests.{lt-ltb, le-ltb}
 use Rattle.drill_text.specs.declared.Command.the-variants.{Bad}
-use Rattle.drill_text.specs.Parts.{words}
+use Rattle.drill_words.specs.Parts.{words}
 use Rattle.drill_text.specs.Lines.{withOne, withTwo, withThree, withFour, asked, commandOf}
 
 -- what so many words ask for

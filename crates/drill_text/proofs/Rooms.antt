@@ -9,13 +9,13 @@ use lib.Dec.{leb, ltb}
 use lib.ListN.{length}
 use borrow.Author.Tests.{leb-true}
 use Rattle.text.specs.Text.{sameText}
-use Rattle.drill_text.specs.declared.Number.{Number}
-use Rattle.drill_text.specs.declared.Number.the-variants.{Spelled, Unreadable}
+use Rattle.drill_words.specs.declared.Number.{Number}
+use Rattle.drill_words.specs.declared.Number.the-variants.{Spelled, Unreadable}
 use Rattle.drill_text.specs.declared.Command.{Command}
 use Rattle.drill_text.specs.declared.Command.the-variants.{Bad, Load, Rest, Vector, Steps, History, List as Steplist, Records, Net, Trace, Bench}
-use Rattle.drill_text.specs.Parts.{words}
-use Rattle.drill_text.specs.Digits.{limited, numberSpelled, roomOf, isHex}
-use Rattle.drill_text.specs.Orders.{isOrder}
+use Rattle.drill_words.specs.Parts.{words}
+use Rattle.drill_words.specs.Digits.{limited, numberSpelled, roomOf, isHex}
+use Rattle.drill_words.specs.Orders.{isOrder}
 use Rattle.drill_text.specs.Lines.{load, rest, vector, steps, history, list, records, net, trace, bench, ifHex, asRecords, asNet, asList, asHistory, asTrace, asBench, withOne, withTwo, withThree, withFour, asked, commandOf}
 use Rattle.drill_text.proofs.Asking.{line-long}
 

@@ -1,5 +1,1 @@
-pub mod Filled
-pub mod Parts
-pub mod Digits
-pub mod Orders
 pub mod Lines

@@ -5,13 +5,13 @@ use Prim.Native.Nat.{ℕ}
 use lib.Dec.{ltb}
 use lib.ListN.{length}
 use Rattle.text.specs.Text.{sameText}
-use Rattle.drill_text.specs.declared.Number.{Number}
-use Rattle.drill_text.specs.declared.Number.the-variants.{Spelled, Unreadable}
+use Rattle.drill_words.specs.declared.Number.{Number}
+use Rattle.drill_words.specs.declared.Number.the-variants.{Spelled, Unreadable}
 use Rattle.drill_text.specs.declared.Command.{Command}
 use Rattle.drill_text.specs.declared.Command.the-variants.{Bad, Load, Rest, Vector, Steps, History, List as Steplist, Records, Net, Trace, Bench}
-use Rattle.drill_text.specs.Parts.{words}
-use Rattle.drill_text.specs.Digits.{numberSpelled, roomOf, isHex}
-use Rattle.drill_text.specs.Orders.{isOrder}
+use Rattle.drill_words.specs.Parts.{words}
+use Rattle.drill_words.specs.Digits.{numberSpelled, roomOf, isHex}
+use Rattle.drill_words.specs.Orders.{isOrder}
 
 -- the names of the operations, in ASCII
 

@@ -2,13 +2,13 @@
 ghost use mathlib.Core.Path.{_≡_};
 ghost use Rattle.drill_text.specs.Lines.{ifHex, asRecords, asNet, asList, asHistory, asTrace, asBench, withOne, withTwo, withThree, withFour, commandOf};
 use crate::Command;
-use crate::Number;
-use crate::digits::is_hex;
-use crate::digits::number_of;
-use crate::digits::room_of;
-use crate::orders::is_order;
-use crate::parts::word;
-use crate::parts::word_count;
+use drill_words::Number;
+use drill_words::is_hex;
+use drill_words::is_order;
+use drill_words::number_of;
+use drill_words::room_of;
+use drill_words::word;
+use drill_words::word_count;
 
 // A command that takes bytes, if they are bytes.
 fn if_hex(word: &[u8], then: Command) -> Command

@@ -1,6 +1,6 @@
 -- The bytes of word 1: those that its digits spell. Assumes nothing.
 use borrow.Author.Needs.{needs}
-use Rattle.drill_text.specs.Digits.{bytesOf}
+use Rattle.drill_words.specs.Digits.{bytesOf}
 use Rattle.drill.proofs.Lent.{filled-by}
 use Rattle.drill.proofs.lines.bytes_of.Statement.{statement}
 use Rattle.drill.proofs.lines.bytes_of.Tie as tie

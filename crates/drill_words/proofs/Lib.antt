@@ -1,0 +1,4 @@
+pub mod Parted
+pub mod Spelling
+pub mod Filling
+pub mod Ordering

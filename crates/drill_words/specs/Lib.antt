@@ -1,0 +1,4 @@
+pub mod Filled
+pub mod Parts
+pub mod Digits
+pub mod Orders
