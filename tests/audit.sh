@@ -1,6 +1,7 @@
 #!/usr/bin/env bash
 # What the documents say of functions, definitions, laws and edits is so; and in a copy with a fault of each kind the same test finds it.
 # needs: python3
+# needs nothing that is proved
 set -euo pipefail
 cd "$(dirname "$0")/.."
 python3 tests/audit_test.py .
@@ -70,7 +71,7 @@ seeded docs/CONTRACTS.md 's/`load-taken`/`load-takes`/' 'docs/CONTRACTS.md names
 seeded docs/CONTRACTS.md 's,| card/refuses_everything |,| card/refuses_nothing |,' 'does not name the edit card/refuses_everything once'
 seeded docs/CONTRACTS.md 's,a NAND that does not invert,a NAND that inverts,' 'docs/figures would write something else'
 seeded docs/NOTES.md 's/^| gate | [0-9]*/&1/' 'docs/figures would write something else'
-seeded crates/card/must-fail/refuses_everything.edit '/^at: /d' "card/refuses_everything does not say what it is 'at'"
+seeded crates/card/must-fail/depth_of_nothing.edit '/^at: /d' "card/depth_of_nothing does not say what it is 'at'"
 seeded crates.txt 's/^# the sheet$/# the sheets/' 'docs/drawing would draw something else'
 seeded README.md 's/`operations`/`operating`/' 'README.md: there is no operating'
 seeded docs/PERFORMANCE.md 's/`krasvome_vectors`/`krasvome_vectored`/' 'docs/PERFORMANCE.md: there is no krasvome_vectored'

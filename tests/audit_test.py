@@ -15,6 +15,8 @@ import re
 import subprocess
 import sys
 
+from must_fail import edits
+
 root = pathlib.Path(sys.argv[1])
 crates = root / "crates"
 faults = []
@@ -185,12 +187,12 @@ for document in ("README.md", *(f"docs/{file.name}" for file in sorted((root / "
             pathed += 1
             if not defines(files, name):
                 faults.append(f"{document}: {path} does not define {name}")
-edits = {f"{crate}/{file.stem}": file.read_text(encoding="utf-8") for crate in listed for file in (crates / crate / "must-fail").glob("*.edit")}
-for edit, text in sorted(edits.items()):
+tried = edits([crates / crate for crate in listed])
+for edit, text in sorted((f"{crate}/{text.get('name', file)}", text) for crate, file, text in tried):
     if contracts.count(f"| {edit} |") != 1 or len(re.findall(rf"(?<![\w/-]){re.escape(edit)}(?![\w-])", contracts)) != 1:
         faults.append(f"docs/CONTRACTS.md does not name the edit {edit} once")
-    for said in ("of", "wrong", "at"):
-        if not re.search(rf"^{said}: \S", text, flags=re.M):
+    for said in ("name", "of", "wrong", "at"):
+        if said not in text:
             faults.append(f"{edit} does not say what it is '{said}'")
 theorems = re.findall(r"`([a-z0-9]+(?:-[a-z0-9]+)+)`", contracts.split("<!-- edits -->")[0])
 for name in sorted({name for name in theorems if theorems.count(name) > 1}):
@@ -219,5 +221,5 @@ for crate in re.findall(r"^(?=.*\bhost_bytes\b)(\w+):", (root / "crates.txt").re
 for fault in faults:
     print(f"audit: {fault}")
 clauses = sum(known[key][0] for key in asking)
-print(f"audit: {len(asking)} functions of {len(known)} have {clauses} clauses of requires; {len(defined)} definitions; {len(public)} operations; {pathed} names by path; {len(edits)} edits")
+print(f"audit: {len(asking)} functions of {len(known)} have {clauses} clauses of requires; {len(defined)} definitions; {len(public)} operations; {pathed} names by path; {len(tried)} edits")
 sys.exit(bool(faults))

@@ -8,24 +8,35 @@ python3 tests/edits_test.py .
 
 room=$(mktemp -d)
 trap 'rm -rf "$room"' EXIT
-edit=crates/word/must-fail/least_left_in.edit
-log=target/must-fail/word/least_left_in/.log
 
-# seeded FILE SED EXPECTED: with that change to the edit or to its log the test fails and says so
+# seeded FILE SED EXPECTED: with that change to the edits or to their log the test fails and says so
 seen=0
 seeded() {
     rm -rf "$room"/*
-    mkdir -p "$room/$(dirname "$edit")" "$room/$(dirname "$log")"
-    cp "$edit" "$room/$edit"
-    cp "$log" "$room/$log"
-    python3 tests/edits_test.py "$room" >"$room/out" || { echo "edits: $edit alone does not pass" >&2; return 1; }
+    for file in "$edits" "$log" $code; do
+        mkdir -p "$room/$(dirname "$file")"
+        cp "$file" "$room/$file"
+    done
+    python3 tests/edits_test.py "$room" >"$room/out" || { echo "edits: $edits alone does not pass" >&2; return 1; }
     sed -i "$2" "$room/$1"
     if python3 tests/edits_test.py "$room" >"$room/out"; then echo "edits: $2 was not found" >&2; return 1; fi
     grep -qF "$3" "$room/out" || { echo "edits: $2 was not found as '$3'" >&2; return 1; }
     seen=$((seen + 1))
 }
-seeded "$edit" 's/^at: .*/at: `returns` of `least`/' 'it is not refused at `returns` of `least`, but at `returns-2` of `without_least`'
-seeded "$edit" '/^at: /d' 'it is not refused at a fact that its file names'
+
+# several together
+edits=crates/word/must-fail/code-1.edit log=target/must-fail/word/code-1/.log code="crates/word/src/lib.rt crates/word/src/pcset.rt"
+seeded "$edits" 's/^at: `returns` of `least`/at: `returns-2` of `least`/' 'word/least_is_largest: it is not refused at `returns-2` of `least`'
+seeded "$edits" '/^at: `returns` of `least`/d' 'word/least_is_largest: it is not refused at a fact that its file names'
+seeded "$edits" 's/^old:         u64::trailing_zeros/old:         u64::count_ones/' 'it is not in a function of its own, but in size'
+seeded "$log" '/without_least\/Proof/d' 'word/least_left_in: it is not refused at `returns-2` of `without_least`'
+seeded "$log" '1i /r/proofs/pcset/PcSet/least/Proof.antt:1:1: error: `returns`: record `Lts.After` has no field `args`' 'word/least_is_largest: /r/proofs/pcset'
 seeded "$log" 'd' 'it was not tried: run rt ci'
+
+# one alone
+edits=crates/card/must-fail/depth_of_nothing.edit log=target/must-fail/card/depth_of_nothing/.log code=crates/card/specs/Asked.antt
+seeded "$edits" 's/^at: .*/at: `returns` of `judge`/' 'card/depth_of_nothing: it is not refused at `returns` of `judge`, but at'
+seeded "$edits" '/^at: /d' 'it is not refused at a fact that its file names'
 seeded "$log" '1i p/Proof.antt:1:1: error: `returns`: record `Lts.After` has no field `args`' 'has no field `args`'
+seeded "$log" 'd' 'it was not tried: run rt ci'
 echo "edits: $seen seeded faults found"

@@ -28,9 +28,10 @@ def messages(log):
 
 def own(said, fact):
     """Whether a message is about the proof that a fact is of."""
-    of = re.fullmatch(r"`[^`]*` of `(\w+)`", fact)
+    of = re.fullmatch(r"`[^`]*` of `([\w+]+)`", fact)
     if of:
-        return re.match(rf"\S*/proofs/(?:\S*/)?{of.group(1)}/Proof\.antt:", said) or re.match(rf"fn (?:\w+::)*{of.group(1)}: no proof: ", said)
+        name = re.escape(of.group(1))
+        return re.match(rf"\S*/proofs/(?:\S*/)?{name}/Proof\.antt:", said) or re.match(rf"fn (?:\w+::)*{name}: no proof: ", said)
     return said.partition(":")[0].endswith("/" + fact.rpartition("(")[2].rstrip(")").partition("/")[2])
 
 
