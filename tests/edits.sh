@@ -29,6 +29,7 @@ edits=crates/word/must-fail/code-1.edit log=target/must-fail/word/code-1/.log co
 seeded "$edits" 's/^at: `returns` of `least`/at: `returns-2` of `least`/' 'word/least_is_largest: it is not refused at `returns-2` of `least`'
 seeded "$edits" '/^at: `returns` of `least`/d' 'word/least_is_largest: it is not refused at a fact that its file names'
 seeded "$edits" 's/^old:         u64::trailing_zeros/old:         u64::count_ones/' 'it is not in a function of its own, but in size'
+seeded "$edits" 's/^at: `returns` of `least`/at: `returns` of `up`/' 'word/least_is_largest: it is in least, and names `returns` of `up`'
 seeded "$log" '/without_least\/Proof/d' 'word/least_left_in: it is not refused at `returns-2` of `without_least`'
 seeded "$log" '1i /r/proofs/pcset/PcSet/least/Proof.antt:1:1: error: `returns`: record `Lts.After` has no field `args`' 'word/least_is_largest: /r/proofs/pcset'
 seeded "$log" 'd' 'it was not tried: run rt ci'

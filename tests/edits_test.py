@@ -2,7 +2,7 @@
 the checker said of each file in target/must-fail. Of an edit that stands alone the first refusal that is not the consequence of another has to be in one of the wordings
 that the checker has for a statement that it cannot prove; of one among several the first refusal in the proof that it names. And one of these has to be the need of a
 function's proof, or the law, that it names after `at:`. Whether that statement is false, or true and only unproved, no test can tell: that was read (docs/CONTRACTS.md).
-Several edits of one file have to be in functions of their own. `edits_test.py ROOT facts CRATE/FILE` prints the facts at which a file's edits were refused."""
+Several edits of one file have to be in functions of their own, each in the one whose proof it names. `edits_test.py ROOT facts CRATE/FILE` prints the facts at which a file's edits were refused."""
 import collections
 import pathlib
 import re
@@ -112,9 +112,11 @@ for crate, file, said in found:
         wrong = fault(messages(text))
     else:
         code = (root / "crates" / crate / said["file"]).read_text(encoding="utf-8")
-        place = re.findall(r"^ *(?:pub )?(?:(?:extern \"C\" )?fn|const) (\w+)", code[: code.index(said["old"])], flags=re.M)[-1]
+        kind, place = re.findall(r"^ *(?:pub )?(?:extern \"C\" )?(fn|const) (\w+)", code[: code.index(said["old"])], flags=re.M)[-1]
         if not said["file"].startswith("src/") or (crate, file, said["file"], place) in places:
             wrong = f"it is not in a function of its own, but in {place}"
+        elif kind == "fn" and "at" in said and place not in re.split("[`+]", fact):
+            wrong = f"it is in {place}, and names {fact}"
         places.add((crate, file, said["file"], place))
         if not wrong and fact in facts(text, crate):
             wrong = fault([message for message in messages(text) if own(message, fact)])
