@@ -4,7 +4,8 @@
    `ensures` as docs/AUDIT.md says, all of them in the programs.
 2. docs/AUDIT.md has every definition of specs/ at its crate and file, and no other. Definitions are written in four ways and in no other. A file of specs/Inner says
    that it is inner and names a law that ties it, which is there. Neither a definition outside Inner, nor what demands/proofs says, nor the contract of an operation that
-   docs/CONTRACTS.md calls public speaks of an inner definition.
+   docs/CONTRACTS.md calls public speaks of an inner definition; and every other definition is one that these, the examples, the laws of the host's calls, a function below
+   the operations or a theorem of docs/CONTRACTS.md are built from.
 3. In the README and in every document of docs/, names with a path behind them are defined in that file, and every other name occurs somewhere in the tree, but for
    docs/REQUESTS.md, which names what is still to come. docs/CONTRACTS.md names every edit and every theorem once. docs/figures and docs/drawing would write what stands.
 4. host/krasvome.h has the length of a session that host_bytes has. No file of host_bytes, or of a crate that uses it, writes out where a part of a session stands, but for
@@ -15,6 +16,7 @@ import re
 import subprocess
 import sys
 
+from believed import built, cited, definitions, stated, visible
 from must_fail import edits
 
 root = pathlib.Path(sys.argv[1])
@@ -131,21 +133,44 @@ for file in sorted((crates / "demands/proofs").glob("**/*.antt")):
         faults.append(f"the demands speak of inner definitions ({file.name})")
 
 contracts = (root / "docs/CONTRACTS.md").read_text(encoding="utf-8")
-public = set()
-for row in re.findall(r"^\| (`.*?) \|", contracts.split("\n## Public operations\n")[1].split("\n## ")[0], flags=re.M):
-    for names, crate in re.findall(r"((?:`[^`]+`(?:, )?)+) \(([a-z_]+)\)", row):
-        public |= {(crate, name) for name in names_of(names)}
-for crate, name in sorted(public):
-    found = 0
-    for file in sorted((crates / crate / "src").glob("**/*.rt")):
-        text = re.sub(r"//.*", "", file.read_text(encoding="utf-8"))
-        inner = {name for names in re.findall(r"^ghost use \S*\.specs\.Inner\.\w+\.\{([^}]*)\}", text, flags=re.M) for name in re.findall(r"[^\s,]+", names)}
-        for contract in re.findall(rf"^ *pub (?:extern \"C\" )?fn {name}\b(.*?)^ *\{{$", text, flags=re.M | re.S):
-            found += 1
-            for cited in sorted(inner & set(re.findall(r"[\w-]+", contract))):
-                faults.append(f"the contract of {crate}::{name} speaks of {cited}, which is inner")
-    if found != 1:
-        faults.append(f"docs/CONTRACTS.md has the operation {crate}::{name}, and there are {found}")
+
+
+def said_of(title):
+    """The functions that a table of docs/CONTRACTS.md names, and what their contracts cite."""
+    functions, cites = set(), set()
+    for row in re.findall(r"^\| (`.*?) \|", contracts.split(f"\n## {title}\n")[1].split("\n## ")[0], flags=re.M):
+        for names, crate in re.findall(r"((?:`[^`]+`(?:, )?)+) \(([a-z_]+)\)", row):
+            functions |= {(crate, name.split("::")[-1]) for name in names_of(names)}
+    for crate, name in sorted(functions):
+        found = []
+        for file in sorted((crates / crate / "src").glob("**/*.rt")):
+            text = re.sub(r"//.*", "", file.read_text(encoding="utf-8"))
+            found += [(contract, visible(text)) for contract in re.findall(rf"^ *pub (?:extern \"C\" )?fn {name}\b(.*?)^ *\{{$", text, flags=re.M | re.S)]
+        if len(found) != 1:
+            faults.append(f"docs/CONTRACTS.md has {crate}::{name}, and there are {len(found)}")
+        for contract, names in found:
+            here = cited(contract, names)
+            cites |= here
+            if title == "Public operations":
+                faults.extend(f"the contract of {crate}::{name} speaks of {cite[2]}, which is inner" for cite in sorted(here) if cite[1].startswith("Inner"))
+    return functions, cites
+
+
+public, starts = said_of("Public operations")
+known_by = definitions([crates / crate for crate in listed])
+starts |= {key for key in known_by if key[0] in ("demands", "examples", "host_laws")}
+starts |= {place for file in (crates / "demands/proofs").glob("*.antt") for place in visible(file.read_text(encoding="utf-8")).values()}
+for key in sorted(built(known_by, starts)):
+    if key[1].startswith("Inner"):
+        faults.append(f"{key[0]}/specs/{key[1]}.antt has {key[2]}, which the demands or an operation are built from")
+starts |= said_of("Below them")[1]
+for names, path in re.findall(r"((?:`[^`]+`(?:, | and | \.\. ))*`[^`]+`),? \(([a-z_]+/proofs[^)\s]*?)[,;)]", re.sub(r"\s+", " ", contracts)):
+    for file in [crates / path] if path.endswith(".antt") else sorted((crates / path).glob("*.antt")):
+        if file.exists():
+            starts |= stated(file, names_of(names))
+for key in sorted(set(known_by) - built(known_by, starts)):
+    if not key[1].startswith("Inner"):
+        faults.append(f"{key[0]}/specs/{key[1]}.antt has {key[2]}, which nothing that is to be believed is built from")
 
 # --- 3. names with a path behind them, and edits
 

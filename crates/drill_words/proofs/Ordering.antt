@@ -4,7 +4,8 @@ use mathlib.Core.Bool.{Bool, true, false}
 use mathlib.Core.List.{List, [], _∷_}
 use Prim.Native.Nat.{ℕ, _+_, _≤_, _<_}
 use lib.ListN.{length, getD, drop, set}
-use Rattle.drill_words.specs.Parts.{parts, partsFrom}
+use Rattle.drill_words.specs.Parts.{parts}
+use Rattle.drill_words.specs.Inner.Parts.{partsFrom}
 use Rattle.drill_words.specs.Digits.{numberSpelled, isDash}
 use Rattle.drill_words.specs.Filled.{Filled}
 use Rattle.drill_words.specs.Orders.{isSpelled, allNumbers, isOrder, orderEntry, entries, orderSpelled}

@@ -10,7 +10,8 @@ use lib.ListN.{length, getD, take, drop, length-drop, drop-of-length-le}
 use lib.Seq.{drop-drop, getD-drop}
 use borrow.Author.Tests.{eq-eqb, ne-eqb, le-leb, lt-leb, leb-true, leb-false}
 use Rattle.text.proofs.Texts.{drop-next}
-use Rattle.drill_words.specs.Parts.{firstPart, laterParts, parts, partsFrom, words}
+use Rattle.drill_words.specs.Parts.{firstPart, laterParts, parts, words}
+use Rattle.drill_words.specs.Inner.Parts.{partsFrom}
 
 module _ (sep : ℕ) where
   -- the first part, byte by byte

@@ -2,8 +2,7 @@
 use mathlib.Core.Bool.{cond}
 use mathlib.Core.List.{List, [], _∷_}
 use Prim.Native.Nat.{ℕ}
-use lib.Dec.{eqb, leb}
-use lib.ListN.{length, drop}
+use lib.Dec.{eqb}
 
 -- the bytes ahead of the first separator
 unfoldable pub firstPart : ℕ → List ℕ → List ℕ
@@ -18,10 +17,6 @@ laterParts sep (b ∷ bs) = cond (eqb b sep) (firstPart sep bs ∷ laterParts se
 -- all of them, one more than there are separators
 abbrev pub parts : ℕ → List ℕ → List (List ℕ)
 parts sep text = firstPart sep text ∷ laterParts sep text
-
--- the parts from a place on, and none from one past the text's end
-unfoldable pub partsFrom : ℕ → List ℕ → ℕ → List (List ℕ)
-partsFrom sep text from = cond (leb from (length text)) (parts sep (drop from text)) []
 
 -- "One operation a line": the words of a line are its parts between blanks
 abbrev pub words : List ℕ → List (List ℕ)

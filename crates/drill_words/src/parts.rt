@@ -3,7 +3,8 @@ ghost use mathlib.Core.Path.{_≡_};
 ghost use mathlib.Core.List.{[]};
 ghost use Prim.Native.Nat.{_+_, _≤_, _<_};
 ghost use lib.ListN.{length, drop, getD};
-ghost use Rattle.drill_words.specs.Parts.{firstPart, partsFrom, words};
+ghost use Rattle.drill_words.specs.Parts.{firstPart, words};
+ghost use Rattle.drill_words.specs.Inner.Parts.{partsFrom};
 
 // Where the part that starts at `from` ends: at the next separator, or at the text's end.
 fn part_end(text: &[u8], from: usize, sep: u8) -> usize

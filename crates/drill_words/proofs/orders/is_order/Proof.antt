@@ -4,7 +4,7 @@ use Prim.Native.Nat.{_+_, _-_, _≤_}
 use native.Mathlib.Omega.{arith}
 use lib.ListN.{length}
 use borrow.Author.Tests.{not-true, not-false}
-use Rattle.drill_words.specs.Parts.{partsFrom}
+use Rattle.drill_words.specs.Inner.Parts.{partsFrom}
 use Rattle.drill_words.specs.Orders.{allNumbers, isOrder}
 use Rattle.drill_words.proofs.Ordering.{dash-order, numbers-start, numbers-stop, numbers-on, numbers-end}
 use borrow.Author.Needs.{needs}

@@ -3,7 +3,7 @@ use mathlib.Core.Path.{sym, _∙_}
 use Prim.Native.Nat.{_+_, _-_, _≤_}
 use native.Mathlib.Omega.{arith}
 use lib.ListN.{length}
-use Rattle.drill_words.specs.Parts.{partsFrom}
+use Rattle.drill_words.specs.Inner.Parts.{partsFrom}
 use Rattle.drill_words.specs.Orders.{entries, orderSpelled}
 use Rattle.drill_words.proofs.Filling.{Filling}
 use Rattle.drill_words.proofs.Ordering.{dash-none, entries-start, entries-more, entries-end}

@@ -3,7 +3,8 @@ use mathlib.Core.Path.{_≡_, _∙_}
 use Prim.Native.Nat.{_+_, _-_, _≤_}
 use native.Mathlib.Omega.{arith}
 use lib.ListN.{length, drop}
-use Rattle.drill_words.specs.Parts.{partsFrom, words}
+use Rattle.drill_words.specs.Parts.{words}
+use Rattle.drill_words.specs.Inner.Parts.{partsFrom}
 use Rattle.drill_words.proofs.Parted.{from-start, word-next, word-is}
 use borrow.Author.Needs.{needs}
 use Rattle.drill_words.proofs.parts.word.Statement.{statement}
