@@ -62,6 +62,9 @@ seeded crates/trace/src/lib.rt 's/⌜ Good s ⌝/⌜ Readable s ⌝/' 'the contr
 seeded docs/CONTRACTS.md 's/^| `trace` (trace) |/| `traced` (trace) |/' 'docs/CONTRACTS.md has trace::traced, and there are 0'
 seeded crates/text/specs/Inner/Put.antt 's/`put-then`/put-then/' 'text/specs/Inner/Put.antt names no law that ties it'
 moved crates/gate/specs/Gate.antt crates/gate/specs/Other/Gate.antt 'gate/specs has a folder, Other'
+seeded crates/trace/specs/Traced.antt '0,/^use /s//use Rattle.trace.specs.Inner.Caused.{firstMoved}\n&/; s/^changedThen \(.*\) = /changedThen \1 = firstMoved /' \
+    'trace/specs/Inner/Caused.antt has firstMoved, which the demands or an operation are built from'
+seeded crates/history/must-fail/code-2.edit 's/^of: history, flag_of/of: history/' 'history::flag_of is public, and has 1 wrong answers'
 seeded crates/rule/specs/Flag.antt '$ a abbrev pub spare : ℕ' 'rule/specs/Flag.antt has spare, which nothing that is to be believed is built from'
 seeded crates/gate/specs/Inner/Pins.antt '1s/Inner: //' 'gate/specs/Inner/Pins.antt does not say that it is inner'
 seeded crates/gate/proofs/Pins.antt 's/gate-by-pins/gate-of-pins/' 'is tied by gate-by-pins (gate/proofs/Pins.antt), which is not there'

@@ -7,7 +7,8 @@
    docs/CONTRACTS.md calls public speaks of an inner definition; and every other definition is one that these, the examples, the laws of the host's calls, a function below
    the operations or a theorem of docs/CONTRACTS.md are built from.
 3. In the README and in every document of docs/, names with a path behind them are defined in that file, and every other name occurs somewhere in the tree, but for
-   docs/REQUESTS.md, which names what is still to come. docs/CONTRACTS.md names every edit and every theorem once. docs/figures and docs/drawing would write what stands.
+   docs/REQUESTS.md, which names what is still to come. docs/CONTRACTS.md names every edit and every theorem once, and a public operation has two edits at
+   least, by what these say that they are of. docs/figures and docs/drawing would write what stands.
 4. host/krasvome.h has the length of a session that host_bytes has. No file of host_bytes, or of a crate that uses it, writes out where a part of a session stands, but for
    the definitions and the constants themselves.
 """
@@ -219,6 +220,10 @@ for edit, text in sorted((f"{crate}/{text.get('name', file)}", text) for crate, 
     for said in ("name", "of", "wrong", "at"):
         if said not in text:
             faults.append(f"{edit} does not say what it is '{said}'")
+for crate, name in sorted(public):
+    of = sum(name in text.get("of", "").split(", ") for _, _, text in tried)
+    if of < 2:
+        faults.append(f"{crate}::{name} is public, and has {of} wrong answers")
 theorems = re.findall(r"`([a-z0-9]+(?:-[a-z0-9]+)+)`", contracts.split("<!-- edits -->")[0])
 for name in sorted({name for name in theorems if theorems.count(name) > 1}):
     faults.append(f"docs/CONTRACTS.md names {name} {theorems.count(name)} times")
