@@ -10,49 +10,27 @@ pub struct Rule {
     pub inversion: bool,
 }
 
-// Document 002's table, a row for each gate type: BUF, NOT, AND, NAND, OR, NOR, XOR, XNOR. BUF and NOT have AND's and NAND's rows, of which they are what
-// one pin gives; XOR and XNOR have no controlling value, and nothing reads it.
-const RULES: [Rule; 8] = [
-    Rule {
-        controlling: false, // BUF
-        inversion: false,
-    },
-    Rule {
-        controlling: false,
-        inversion: true, // NOT
-    },
-    Rule {
-        controlling: false, // AND
-        inversion: false,
-    },
-    Rule {
-        controlling: false,
-        inversion: true, // NAND
-    },
-    Rule {
-        controlling: true, // OR
-        inversion: false,
-    },
-    Rule {
-        controlling: true,
-        inversion: true, // NOR
-    },
-    Rule {
-        controlling: false, // XOR
-        inversion: false,
-    },
-    Rule {
-        controlling: false,
-        inversion: true, // XNOR
-    },
-];
+// Document 002's table in two columns, a bit for each gate type at its number; from the left: XNOR XOR, NOR OR, NAND AND, NOT BUF. BUF and NOT have AND's and
+// NAND's rows, of which they are what one pin gives; XOR and XNOR have no controlling value, and nothing reads it.
+struct Table {
+    controlling: u8,
+    inversion: u8,
+}
+
+const RULES: Table = Table {
+    controlling: 0b00_11_00_00,
+    inversion: 0b10_10_10_10,
+};
 
 // A gate type's row.
 pub fn rule_of(ty: usize) -> Rule
     requires { ⌜ ty < 8 ⌝ }
     ensures { λ r. ⌜ (r .controlling ≡ controls ty) × (r .inversion ≡ inverts ty) ⌝ }
 {
-    RULES[ty]
+    Rule {
+        controlling: (RULES.controlling >> ty) & 1 == 1,
+        inversion: (RULES.inversion >> ty) & 1 == 1,
+    }
 }
 
 // Pin by pin: what the pins so far come to, with one more. One pin comes to its own value.
