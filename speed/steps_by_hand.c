@@ -86,7 +86,6 @@ static void do_step(struct hand_steps *st, const struct hand *h, int k)
 int hand_steps_vector(struct hand_steps *st, const struct hand *h, const uint8_t *before, const uint8_t *vector)
 {
     int done = 0;
-    make_list(st, h);
     start(st, h, before, vector);
     for (int k = 0; k < st->steps; k++, done++) {
         int last = k == st->steps - 1;

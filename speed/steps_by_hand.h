@@ -37,11 +37,11 @@ static inline uint64_t hand_with_pin(int type, uint64_t known, uint64_t value)
 void hand_steps_load(struct hand_steps *st, const struct hand *h);
 void hand_steps_look_up(struct hand_steps *st, const struct hand *h);
 
-/* A vector from the settled values `before`: the list is made, each step finds what it reads, and the histories are filled. They stand in `word`. Returns the steps
+/* A vector from the settled values `before`, along the list: each step finds what it reads, and the histories are filled. They stand in `word`. Returns the steps
  * done. */
 int hand_steps_vector(struct hand_steps *st, const struct hand *h, const uint8_t *before, const uint8_t *vector);
 
-/* The same with the list and all reads looked up. */
+/* The same with all reads looked up. */
 void hand_steps_ready(struct hand_steps *st, const struct hand *h, const uint8_t *before, const uint8_t *vector);
 
 #endif

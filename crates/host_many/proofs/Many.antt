@@ -23,11 +23,16 @@ use Rattle.inputs.specs.Allowed.{byteLimit, Vector}
 use Rattle.inputs.specs.Inputs.{byteFits, given}
 use Rattle.fields.specs.Inner.Fields.{advanced}
 use Rattle.card.specs.declared.Session.{Session}
+use Rattle.card.specs.Session.{cardOf}
 use Rattle.session.specs.Good.{Good}
 use Rattle.session.specs.Moves.{movedBy, vectorOf}
 use Rattle.session.proofs.Moving.{words-long, words-move}
 use Rattle.session.proofs.SameCard.{SameCard, same-card, moved-same}
 use Rattle.session.proofs.Refusals.{vector-takes}
+use Rattle.step_run.specs.declared.Advanced.{Advanced}
+use Rattle.step_run.specs.Vector.{ranSession, stepsVectorOf}
+use Rattle.step_run.specs.Inner.Runs.{stepped}
+use Rattle.step_run.proofs.Vectors.{stepped-run, steps-takes}
 use Rattle.operations.specs.declared.Engine.{Engine}
 use Rattle.operations.specs.declared.Engine.the-variants.{Fields, Steps}
 use Rattle.operations.specs.Operated.{vectorBy}
@@ -146,8 +151,10 @@ module _ (engine : Engine) (s : Session) (g : Good s) (r : s .rested ≡ true) (
       let next = same-session engine (left k) (many-left k (omega (arith, l′)) .good) (bytes k) ∙ ap (λ z. vectorOf z (bytes k) .session) (so-far .0) in
       (next, (λ i. area (so-far .1 i) (k * s .nets) (k * s .nets + s .nets) (next i .words)))
 
--- by fields the words alone go from one vector to the next
+-- The words alone go from one vector to the next
+
 module _ (s : Session) (g : Good s) (r : s .rested ≡ true) (vs room : List ℕ) (fits : every byteFits vs ≡ true) where
+  -- by fields
   pub next-words : (j : ℕ) → j * s .inputs + s .inputs ≤ length vs
       → (let z = manyBy Fields s vs (s .inputs) j room .session in
       let v = part vs (j * s .inputs) (s .inputs) in
@@ -163,7 +170,26 @@ module _ (s : Session) (g : Good s) (r : s .rested ≡ true) (vs room : List ℕ
       ∙ words-move z (h .good .card (held .0)) (held .1) v (w .size)
       ∙ sym (ap (λ x. x .session .words) (vector-takes z v rested w))
 
-  -- and the count is 0
+  -- by steps too
+  pub next-stepped : (j : ℕ) → j * s .inputs + s .inputs ≤ length vs
+      → (let z = manyBy Steps s vs (s .inputs) j room .session in
+      let v = part vs (j * s .inputs) (s .inputs) in
+      let m = stepsVectorOf z v in
+      stepped (s .feeds) (s .types) (s .counts) (s .places) (s .sets) (stepList (cardOf s)) (z .words) v ≡ record { words = m .session .words; count = answerCount (m .answer) })
+  unfolding ranSession
+  next-stepped j l =
+      let h = many-left Steps s g r vs room fits j (omega (arith, l)) in
+      let z = manyBy Steps s vs (s .inputs) j room .session in
+      let v = part vs (j * s .inputs) (s .inputs) in
+      let rested : z .rested ≡ true = h .same .rests in
+      let w : Vector (z .inputs) v = subst (λ x. Vector (x .inputs) v) (sym (h .same .card)) (many-vector vs (s .inputs) j fits l) in
+      let held = h .good .rest rested in
+      sym (ap (λ x. stepped (x .feeds) (x .types) (x .counts) (x .places) (x .sets) (stepList (cardOf s)) (z .words) v) (h .same .card))
+      ∙ ap (λ c. stepped (z .feeds) (z .types) (z .counts) (z .places) (z .sets) (stepList c) (z .words) v) (sym (same-card s true z (h .same)))
+      ∙ stepped-run z (h .good .card (held .0)) v (w .size) (stepList (cardOf z))
+      ∙ sym (ap (λ m. record { words = m .session .words; count = answerCount (m .answer) }) (steps-takes z v rested w))
+
+  -- by fields the count is 0
   pub fields-count : (k : ℕ) → k * s .inputs ≤ length vs → manyBy Fields s vs (s .inputs) k room .count ≡ 0
   unfolding manyBy
   fields-count zero l = refl

@@ -60,26 +60,41 @@ fn many_fields(s: Session, vectors: &[u8], k: usize, room: &mut [u64])
     }
 }
 
-// The same by steps; what comes back is the count of the steps done for the last of them.
+// The same by steps, along a list that is made once; what comes back is the count of the steps done for the last of them.
 fn many_steps(s: Session, vectors: &[u8], k: usize, room: &mut [u64]) -> usize
     requires { ⌜ Good s ⌝ }
+    requires { ⌜ (s .rested ≡ true) × (every byteFits (now vectors) ≡ true) ⌝ }
     requires { ⌜ (k * s .inputs ≤ length (now vectors)) × (s .nets ≤ 256) × (k * s .nets ≤ length (now room)) ⌝ }
     ensures { λ r. ⌜ now (room .exit) ≡ manyBy Steps s (now (vectors .entry)) (s .inputs) k (now (room .entry)) .words ⌝ }
     ensures { λ r. ⌜ r ≡ manyBy Steps s (now (vectors .entry)) (s .inputs) k (now (room .entry)) .count ⌝ }
 {
     let n = s.inputs;
     let nets = s.nets;
-    let mut session = s;
+    let mut step_nets = [0u16; 4096];
+    let mut step_times = [0u8; 4096];
+    let total = step_list::put_list(&mut step_nets, &mut step_times, &s.sets, &s.order, s.gates);
+    let mut last = s.words;
     let mut count: usize = 0;
     let mut done: usize = 0;
     let mut from: usize = 0;
     let mut at: usize = 0;
     while done < k {
-        let left = step_run::vector_steps(session, &vectors[from..from + n]);
-        let answer = left.answer;
-        session = left.session;
-        count = rule::answer_count(answer);
-        put_words(&session.words, nets, room, at);
+        let left = step_run::advance(
+            &last,
+            &s.feeds,
+            &s.types,
+            &s.counts,
+            &s.places,
+            &s.sets,
+            nets,
+            &step_nets,
+            &step_times,
+            total,
+            &vectors[from..from + n],
+        );
+        last = left.words;
+        count = left.count;
+        put_words(&last, nets, room, at);
         done += 1;
         from += n;
         at += nets;

@@ -17,7 +17,7 @@ use Rattle.card_wiring.specs.declared.Verdict.the-variants.{Refused as Faulty, 
 use Rattle.inputs.specs.Allowed.{Vector}
 use Rattle.inputs.specs.Inputs.{isInputKind, given, vectorJudged}
 use Rattle.inputs.proofs.Verdicts.{vector-judged}
-use Rattle.inputs.specs.Inner.Starts.{netsPut, byteWord}
+use Rattle.inputs.specs.Inner.Starts.{netsPut, byteWord, topsOf}
 use Rattle.inputs.proofs.Starts.{inputsPut, nets-put}
 use Rattle.card.specs.declared.Session.{Session}
 use Rattle.card.specs.Session.{cardOf, resting}
@@ -25,22 +25,17 @@ use Rattle.card.specs.Held.{HasCard}
 use Rattle.card.proofs.Kept.{feeds-are}
 use Rattle.session.specs.Moves.{refusedMove, moving, ends}
 use Rattle.session.proofs.Held.{inputs-ranked}
+use Rattle.session.proofs.Moving.{tops-ends}
 use Rattle.session.proofs.Answers.{moving-refused, moving-done}
 use Rattle.step_vars.specs.Variables.{historiesFrom}
-use Rattle.step_vars.specs.Inner.Variables.{Words, startIn}
+use Rattle.step_vars.specs.Inner.Variables.{startIn}
+use Rattle.step_run.specs.declared.Advanced.{Advanced}
 use Rattle.step_run.specs.Runs.{Ran, ran}
 use Rattle.step_run.specs.Vector.{startVars, ranAlong, ranSession, stepsVectorOf}
-use Rattle.step_run.specs.Inner.Runs.{ranMove}
+use Rattle.step_run.specs.Inner.Runs.{stepped, ranMove}
 
 module _ (s : Session) where
   -- The start
-
-  pub start-words : (new : ℕ → Bool) → Words (startVars s new)
-  unfolding startVars
-  start-words new = record {
-    size = length-listed _ 256;
-    low = λ n. listed-all (λ w. w < 2 ^ 64) _ 256 n 0 (word-lt 64 _) (lit< tt);
-  }
 
   -- the inputs put over the before values
   pub start-is : HasCard s → (v : List ℕ) → length v ≡ s .inputs → (before : List Bool) (vars : List ℕ) → before ≡ listed (ends s) 256 → vars ≡ startIn before (s .feeds) v
@@ -70,14 +65,22 @@ module _ (s : Session) where
 
   -- What a run hands back
 
-  pub run-made : (new : ℕ → Bool) (ks js : List Step) (vars after words : List ℕ) (before : List Bool) (done : ℕ) (next : Session) → vars ≡ startVars s new → js ≡ ks
-      → record { words = after; count = done } ≡ ran (s .types) (s .counts) (s .places) (s .sets) vars js → before ≡ listed (ends s) 256 → words ≡ historiesFrom (s .sets) after
-      → next ≡ resting s (s .rested) before words → record { answer = Done done; session = next } ≡ ranMove s (ranAlong s new ks)
-  unfolding ranAlong ranSession
-  run-made new ks js vars after words before done next ev ek er eb ew en =
-      ap (λ x. record { answer = Done done; session = x })
-      (en ∙ ap (λ b. resting s (s .rested) b words) eb ∙ ap (λ w. resting s (s .rested) (listed (ends s) 256) w) ew)
-      ∙ ap (ranMove s) (er ∙ ap (λ v. ran (s .types) (s .counts) (s .places) (s .sets) v js) ev ∙ ap (ran (s .types) (s .counts) (s .places) (s .sets) (startVars s new)) ek)
+  -- steps from the session's words leave what a run of them leaves
+  pub stepped-run : HasCard s → (v : List ℕ) → length v ≡ s .inputs → (ks : List Step)
+      → stepped (s .feeds) (s .types) (s .counts) (s .places) (s .sets) ks (s .words) v
+      ≡ (let r = ranAlong s (given (s .kinds) v) ks in record { words = historiesFrom (s .sets) (r .words); count = r .count })
+  unfolding stepped ranAlong
+  stepped-run h v size ks =
+      ap (λ vars. let r = ran (s .types) (s .counts) (s .places) (s .sets) vars ks in record { words = historiesFrom (s .sets) (r .words); count = r .count })
+      (start-is h v size (topsOf (s .words)) _ (tops-ends s _ refl) refl)
+
+  pub run-made : (new : ℕ → Bool) (ks : List Step) (left : Advanced) (before : List Bool) (next : Session)
+      → left ≡ (let r = ranAlong s new ks in record { words = historiesFrom (s .sets) (r .words); count = r .count }) → before ≡ listed (ends s) 256
+      → next ≡ resting s (s .rested) before (left .words) → record { answer = Done (left .count); session = next } ≡ ranMove s (ranAlong s new ks)
+  unfolding ranSession
+  run-made new ks left before next el eb en =
+      ap (λ x. record { answer = Done (left .count); session = x }) (en ∙ ap (λ b. resting s (s .rested) b (left .words)) eb)
+      ∙ ap (λ (x : Advanced). record { answer = Done (x .count); session = resting s (s .rested) (listed (ends s) 256) (x .words) }) el
 
   -- The answer
 

@@ -5,7 +5,7 @@ use mathlib.Core.List.{List, map}
 use Prim.Native.Nat.{ℕ, _^_, _<_}
 use native.Mathlib.Omega.{arith}
 use lib.Dec.{eqb, lit<}
-use lib.ListN.{getD, set}
+use lib.ListN.{length, getD, set}
 use borrow.Author.Tests.{eq-eqb, ne-eqb}
 use Rattle.lists.proofs.Listed.{length-listed, listed-all, is-listed, listed-set}
 use Rattle.word.specs.Word.{bit, wordOf}
@@ -16,8 +16,10 @@ use Rattle.rule.specs.Steps.{Step, sameStep}
 use Rattle.rule.proofs.Nets.{at-net, not-open}
 use Rattle.rule.proofs.Runs.{made-is}
 use Rattle.rule.proofs.StepRuns.{same-one, same-self}
+use Rattle.inputs.specs.Inner.Starts.{byteWord}
+use Rattle.inputs.proofs.Starts.{length-put, put-low}
 use Rattle.step_vars.specs.Variables.{heldIn, varsOf, wordsOf, readsIn, fnIn, stepIn}
-use Rattle.step_vars.specs.Inner.Variables.{Words}
+use Rattle.step_vars.specs.Inner.Variables.{Words, startIn}
 
 -- a net's variables are its word's bits
 pub var-net : (words : List ℕ) (n t : ℕ) → n < 256 → varsOf words (record { net = n; time = t }) ≡ bit (getD words n 0) t
@@ -64,6 +66,14 @@ module _ (types counts places sets words : List ℕ) (g t : ℕ) where
       other j h q =
           sym (is-word 64 (λ u. new (record { net = j; time = u })) (getD words j 0) (are .low j)
           (λ u b. sym (var-net words j u h) ∙ ap (λ e. cond e value (varsOf words (record { net = j; time = u }))) (sym (other-net j g u t q))))
+
+-- where the variables start there are 256 words
+pub start-words : (before : List Bool) (feeds v : List ℕ) → Words (startIn before feeds v)
+unfolding startIn
+start-words before feeds v = record {
+  size = length-put feeds (byteWord v) (length v) _ ∙ length-listed _ 256;
+  low = put-low feeds (byteWord v) (2 ^ 64) (λ j. word-lt 64 _) _ (λ n. listed-all (λ w. w < 2 ^ 64) _ 256 n 0 (word-lt 64 _) (lit< tt)) (length v);
+}
 
 -- what a step leaves is 256 words again
 pub step-words : (types counts places sets words : List ℕ) (k : Step) → Words (stepIn types counts places sets words k)

@@ -12,7 +12,8 @@ use Rattle.session.proofs.Held.{feeds-fit}
 use Rattle.session.proofs.Moving.{tops-ends}
 use Rattle.step_vars.specs.Inner.Variables.{Words}
 use Rattle.step_run.specs.Vector.{startVars}
-use Rattle.step_run.proofs.Vectors.{start-words, start-is}
+use Rattle.step_vars.proofs.Stores.{start-words}
+use Rattle.step_run.proofs.Vectors.{start-is}
 use Rattle.bench.proofs.Runs.{total-few, entry-low, number-net, first-doable, part-done, whole-done}
 use Rattle.bench.proofs.do_first.Statement.{statement}
 use Rattle.bench.proofs.do_first.Tie as tie
@@ -57,7 +58,7 @@ run-order-requires c κs =
       (
         card-fitting s (card p),
         (
-          (omega (arith, first, t .long), (λ i l. entry-low s (card p) _ _ _ (p .args .order .now) t i (omega (arith, first, t .long))), subst Words (sym (started st)) (start-words s _)),
+          (omega (arith, first, t .long), (λ i l. entry-low s (card p) _ _ _ (p .args .order .now) t i (omega (arith, first, t .long))), subst Words (sym (st .start .ensures)) (start-words _ _ _)),
           first-doable s (card p) _ _ (p .args .total) _ t (p .args .first) first,
         ),
       ),

@@ -1,119 +1,163 @@
--- `host_many::many_steps` meets its contract. The loop's invariant: session and count are those that so many vectors leave, and their words are put. The measure is what is left
--- of them. Assumes nothing.
-use mathlib.Core.Path.{_≡_, refl, sym, ap, ap₂, subst, _∙_}
+-- `host_many::many_steps` meets its contract. The loop's invariant: words and count are those that so many vectors leave, and their words are put. The measure is what is left of
+-- them. Assumes nothing.
+use mathlib.Core.Path.{_≡_, refl, sym, ap, subst, _∙_}
 use Prim.Native.Nat.{ℕ, _+_, _-_, _*_, _≤_}
 use native.Mathlib.Nat.{zero-mul}
 use native.Mathlib.Omega.{arith}
-use lib.ListN.{length}
+use lib.ListN.{length, take, drop}
 use borrow.Author.Needs.{needs}
 use Rattle.lists.specs.Places.{part, area}
-use Rattle.lists.proofs.Places.{place-next, place-fits, place-part}
-use Rattle.rule.specs.Numbers.{answerCount}
-use Rattle.session.specs.Good.{Good}
-use Rattle.step_run.specs.Vector.{stepsVectorOf}
+use Rattle.lists.proofs.Places.{turn-fits, place-next, place-fits, place-part}
+use Rattle.rule.specs.Steps.{stepList}
+use Rattle.rule.proofs.StepLists.{list-only}
+use Rattle.card.specs.Session.{cardOf}
+use Rattle.card.specs.Held.{HasCard}
+use Rattle.card.proofs.Kept.{card-wires, card-fitting}
+use Rattle.session.proofs.Held.{feeds-fit}
+use Rattle.step_list.specs.Inner.Listing.{stepsNamed}
+use Rattle.step_list.proofs.Cards.{list-asked, list-held, list-few}
+use Rattle.step_list.proofs.Lists.{held-steps}
+use Rattle.step_run.specs.Inner.Runs.{Doable, stepped}
+use Rattle.step_run.proofs.Runs.{steps-doable}
 use Rattle.operations.specs.declared.Engine.the-variants.{Steps}
 use Rattle.host_many.specs.Many.{ManyRan, manyBy}
-use Rattle.host_many.proofs.Many.{many-more, many-length, many-good}
+use Rattle.host_many.proofs.Many.{many-more, many-length, many-vector, next-stepped}
 use Rattle.host_many.proofs.many_steps.Statement.{statement}
 use Rattle.host_many.proofs.many_steps.Tie as tie
 
 abbrev Inv-loop : tie.InvT-loop
-Inv-loop vectors k room₀ n nets session₀ count₀ done₀ from₀ at₀ room session count done from at =
-    let ran = manyBy Steps session₀ vectors n done room₀ in
-    (done ≤ k) × (from ≡ done * n) × (at ≡ done * nets) × (session ≡ ran .session) × (count ≡ ran .count) × (room ≡ ran .words)
+Inv-loop vectors k room₀ s n nets step-nets step-times total last₀ count₀ done₀ from₀ at₀ room last count done from at =
+    let ran = manyBy Steps s vectors (s .inputs) done room₀ in
+    (done ≤ k) × (from ≡ done * s .inputs) × (at ≡ done * s .nets) × (last ≡ ran .session .words) × (count ≡ ran .count) × (room ≡ ran .words)
 
 abbrev μ-loop : tie.MeasureT-loop
-μ-loop vectors k room₀ n nets session₀ count₀ done₀ from₀ at₀ room session count done from at = k - done
+μ-loop vectors k room₀ s n nets step-nets step-times total last₀ count₀ done₀ from₀ at₀ room last count done from at = k - done
+
+-- a rested session holds a card
+card : (c : tie.Start Inv-loop μ-loop) → HasCard (c .args .t1)
+card c = c .pre .0 .card (c .pre .0 .rest (c .pre .1 .0 .0) .0)
+
+-- where the function began, seen from where it had the list, from the loop's head and from a turn
+abbrev at-listed : (c : tie.After-put-list Inv-loop μ-loop) → tie.Start Inv-loop μ-loop
+at-listed c = c .before .before .before .before .before .before .before .before
+
+abbrev list : (l : tie.At-loop Inv-loop μ-loop) → tie.After-put-list Inv-loop μ-loop
+list l = l .before .before
+
+abbrev first : (l : tie.At-loop Inv-loop μ-loop) → tie.Start Inv-loop μ-loop
+first l = at-listed (list l)
+
+abbrev begun : (c : tie.In-loop Inv-loop μ-loop) → tie.Start Inv-loop μ-loop
+begun c = first (c .before)
+
+-- the list that is put is the card's
+few : (c : tie.After-put-list Inv-loop μ-loop) → c .put-list .result ≤ 4096
+few c = let a = at-listed c in list-few (a .args .t1) (card a) (c .put-list .ensures)
+
+named : (c : tie.After-put-list Inv-loop μ-loop)
+    → stepsNamed (c .put-list .last .0) (c .put-list .last .1 .0) (c .put-list .result) ≡ stepList (cardOf (at-listed c .args .t1))
+named c = let a = at-listed c in held-steps (list-held (a .args .t1) (card a) (c .put-list .ensures)) (search needs) (search needs) (few c)
+
+put-list-requires : tie.Need-put-list-requires Inv-loop μ-loop
+put-list-requires c κs = let a = c .before .before .before .before .before .before .before in (list-asked (a .args .t1) (card a), search needs)
 
 loop-holds : tie.Need-loop-holds Inv-loop μ-loop
 unfolding manyBy
-loop-holds c = let s = c .before .before .args .s in (omega arith, sym (zero-mul (s .inputs)), sym (zero-mul (s .nets)), refl, refl, refl)
-
--- in a turn: where the function began, and the loop's own variables
-abbrev begun : (c : tie.In-loop Inv-loop μ-loop) → tie.Start Inv-loop μ-loop
-begun c = c .before .before .before .before
+loop-holds c = let s = at-listed (c .before) .args .t1 in (omega arith, sym (zero-mul (s .inputs)), sym (zero-mul (s .nets)), refl, refl, refl)
 
 -- the bytes of the next vector, and the room for its words, are there
-bytes-there : (c : tie.In-loop Inv-loop μ-loop) → (let a = begun c .args in c .before .loop .from + a .s .inputs ≤ length (a .vectors .now))
-bytes-there c = let l = c .before .loop in let a = begun c in place-fits (l .done) (a .args .s .inputs) (l .from) (l .inv .1) (a .args .k) _ (c .loop-test .taken) (a .pre .1 .0)
+bytes-fit : (c : tie.In-loop Inv-loop μ-loop) → (let a = begun c .args in c .before .loop .done * a .t1 .inputs + a .t1 .inputs ≤ length (a .vectors .now))
+bytes-fit c = let a = begun c in turn-fits (c .before .loop .done) (a .args .k) (a .args .t1 .inputs) _ (c .loop-test .taken) (a .pre .1 .1 .0)
 
-words-there : (c : tie.In-loop Inv-loop μ-loop) → (let a = begun c .args in c .before .loop .at + a .s .nets ≤ length (a .room .now))
-words-there c = let l = c .before .loop in let a = begun c in place-fits (l .done) (a .args .s .nets) (l .at) (l .inv .2) (a .args .k) _ (c .loop-test .taken) (a .pre .1 .2)
+bytes-there : (c : tie.In-loop Inv-loop μ-loop) → (let a = begun c .args in c .before .loop .from + a .t1 .inputs ≤ length (a .vectors .now))
+bytes-there c = let l = c .before .loop in let a = begun c in place-fits (l .done) (a .args .t1 .inputs) (l .from) (l .inv .1) (a .args .k) _ (c .loop-test .taken) (a .pre .1 .1 .0)
+
+words-there : (c : tie.In-loop Inv-loop μ-loop) → (let a = begun c .args in c .before .loop .at + a .t1 .nets ≤ length (a .room .now))
+words-there c = let l = c .before .loop in let a = begun c in place-fits (l .done) (a .args .t1 .nets) (l .at) (l .inv .2) (a .args .k) _ (c .loop-test .taken) (a .pre .1 .1 .2)
 
 -- the room has kept its length
-room-long : (l : tie.At-loop Inv-loop μ-loop) → length (l .loop .room) ≡ length (l .before .before .before .args .room .now)
-room-long l = let a = l .before .before .before .args in ap length (l .loop .inv .5) ∙ many-length Steps (a .s) (a .vectors .now) (a .s .inputs) (l .loop .done) (a .room .now)
+room-long : (l : tie.At-loop Inv-loop μ-loop) → length (l .loop .room) ≡ length (first l .args .room .now)
+room-long l = let a = first l .args in ap length (l .loop .inv .5) ∙ many-length Steps (a .t1) (a .vectors .now) (a .t1 .inputs) (l .loop .done) (a .room .now)
 
--- what the next vector leaves
-next-is : (c : tie.After-vector-steps Inv-loop μ-loop)
-    → (let i = c .before .before in
-    let a = begun i .args in
-    c .vector-steps .result ≡ stepsVectorOf (manyBy Steps (a .s) (a .vectors .now) (a .s .inputs) (i .before .loop .done) (a .room .now) .session) (part (a .vectors .now) (i .before .loop .done * a .s .inputs) (a .s .inputs)))
-next-is c =
-    let i = c .before .before in
+-- the bytes that are lent are the next vector's
+bytes-are : (c : tie.In-loop Inv-loop μ-loop)
+    → (let a = begun c .args in
+    let x = c .before .loop .from in
+    let n = a .t1 .inputs in
+    take (x + n - x) (drop x (a .vectors .now)) ≡ part (a .vectors .now) (c .before .loop .done * n) n)
+bytes-are c = let l = c .before .loop in let a = begun c .args in place-part (l .done) (a .t1 .inputs) (l .from) (l .inv .1) (a .vectors .now)
+
+-- after the next words were made: the turn that it is
+abbrev turn : (c : tie.After-advance Inv-loop μ-loop) → tie.In-loop Inv-loop μ-loop
+turn c = c .before .before .before .before .before .before .before .before .before .before .before
+
+add-advance : tie.Need-add-advance Inv-loop μ-loop
+add-advance c = let b = bytes-there (c .before .before .before .before .before .before .before .before .before) in search needs
+
+sub-advance : tie.Need-sub-advance Inv-loop μ-loop
+sub-advance c = search needs
+
+part-advance-start : tie.Need-part-advance-start Inv-loop μ-loop
+part-advance-start c = search needs
+
+part-advance-end : tie.Need-part-advance-end Inv-loop μ-loop
+part-advance-end c = let b = bytes-there (c .before .before .before .before .before .before .before .before .before) in search needs
+
+advance-requires : tie.Need-advance-requires Inv-loop μ-loop
+advance-requires c κs =
+    let i = c .before .before .before .before .before .before .before .before .before .before in
     let l = i .before .loop in
-    let a = begun i .args in
-    c .vector-steps .ensures ∙ ap₂ stepsVectorOf (l .inv .3) (place-part (l .done) (a .s .inputs) (l .from) (l .inv .1) (a .vectors .now))
-
-add-vector-steps : tie.Need-add-vector-steps Inv-loop μ-loop
-add-vector-steps c = let b = bytes-there c in search needs
-
-sub-vector-steps : tie.Need-sub-vector-steps Inv-loop μ-loop
-sub-vector-steps c = search needs
-
-part-vector-steps-start : tie.Need-part-vector-steps-start Inv-loop μ-loop
-part-vector-steps-start c = search needs
-
-part-vector-steps-end : tie.Need-part-vector-steps-end Inv-loop μ-loop
-part-vector-steps-end c = let b = bytes-there c in search needs
-
-vector-steps-requires : tie.Need-vector-steps-requires Inv-loop μ-loop
-vector-steps-requires c κs =
-    let i = c .before in
     let a = begun i in
-    subst Good (sym (i .before .loop .inv .3)) (many-good Steps (a .args .s) (a .pre .0) (a .args .vectors .now) (a .args .s .inputs) (i .before .loop .done) (a .args .room .now))
-
-answer-count-requires : tie.Need-answer-count-requires Inv-loop μ-loop
-answer-count-requires c κs = search needs
+    let s = a .args .t1 in
+    let h = card a in
+    let size = ap length (bytes-are i) ∙ many-vector (a .args .vectors .now) (s .inputs) (l .done) (a .pre .1 .0 .1) (bytes-fit i) .size in
+    let fed = feeds-fit s h (take (l .from + s .inputs - l .from) (drop (l .from) (a .args .vectors .now))) size in
+    let doable = subst (Doable (s .types) (s .counts)) (sym (named (list (i .before)))) (steps-doable s h (stepList (cardOf s)) (list-only (cardOf s))) in
+    (card-wires s h, (card-fitting s h, ((few (list (i .before)), fed .0, fed .1), doable)))
 
 put-words-requires : tie.Need-put-words-requires Inv-loop μ-loop
 put-words-requires c κs =
-    let i = c .before .before .before .before .before .before .before in
-    (begun i .pre .1 .1, subst (λ x. i .before .loop .at + begun i .args .s .nets ≤ x) (sym (room-long (i .before))) (words-there i))
+    let i = turn (c .before .before .before) in
+    (begun i .pre .1 .1 .1, subst (λ x. i .before .loop .at + begun i .args .t1 .nets ≤ x) (sym (room-long (i .before))) (words-there i))
 
--- after the words were put: what the vector left, and the turn that it is
-abbrev left : (c : tie.After-slice-known2 Inv-loop μ-loop) → tie.After-vector-steps Inv-loop μ-loop
-left c = c .before .before .before .before .before .before .before .before
-
-abbrev turn : (c : tie.After-slice-known2 Inv-loop μ-loop) → tie.In-loop Inv-loop μ-loop
-turn c = left c .before .before
+-- after the words were put: where they were made
+abbrev made : (c : tie.After-slice-known2 Inv-loop μ-loop) → tie.After-advance Inv-loop μ-loop
+made c = c .before .before .before .before .before .before
 
 add-done : tie.Need-add-done Inv-loop μ-loop
-add-done c = search needs
+add-done c = let s = begun (turn (made c)) in let b = turn (made c) .loop-test .taken in search needs
 
 add-from : tie.Need-add-from Inv-loop μ-loop
-add-from c = let b = bytes-there (turn c) in search needs
+add-from c = let s = begun (turn (made c)) in let b = bytes-there (turn (made c)) in search needs
 
 add-at : tie.Need-add-at Inv-loop μ-loop
-add-at c = let b = words-there (turn c) in search needs
+add-at c = let s = begun (turn (made c)) in let b = words-there (turn (made c)) in search needs
 
 loop-less : tie.Need-loop-less Inv-loop μ-loop
 loop-less c = search needs
 
 loop-again : tie.Need-loop-again Inv-loop μ-loop
 loop-again c =
-    let i = turn c in
+    let i = turn (made c) in
     let l = i .before .loop in
-    let a = begun i .args in
-    let s = a .s in
-    let next = next-is (left c) in
-    let more = many-more Steps s (a .vectors .now) (s .inputs) (l .done) (a .room .now) in (
+    let a = begun i in
+    let s = a .args .t1 in
+    let vs = a .args .vectors .now in
+    let room = a .args .room .now in
+    let lent = take (l .from + s .inputs - l .from) (drop (l .from) vs) in
+    let next =
+    made c .advance .ensures
+    ∙ ap (λ ks. stepped (s .feeds) (s .types) (s .counts) (s .places) (s .sets) ks (l .last) lent) (named (list (i .before)))
+    ∙ ap (stepped (s .feeds) (s .types) (s .counts) (s .places) (s .sets) (stepList (cardOf s)) (l .last)) (bytes-are i)
+    ∙ ap (λ ws. stepped (s .feeds) (s .types) (s .counts) (s .places) (s .sets) (stepList (cardOf s)) ws (part vs (l .done * s .inputs) (s .inputs))) (l .inv .3)
+    ∙ next-stepped s (a .pre .0) (a .pre .1 .0 .0) vs room (a .pre .1 .0 .1) (l .done) (bytes-fit i) in
+    let more = many-more Steps s vs (s .inputs) (l .done) room in (
       omega (arith, i .loop-test .taken),
       place-next (l .done) (s .inputs) (l .from) (l .inv .1),
       place-next (l .done) (s .nets) (l .at) (l .inv .2),
-      ap (λ m. m .session) next ∙ sym (ap (λ x. x .session) more),
-      c .before .before .before .before .before .before .answer-count .ensures ∙ ap (λ m. answerCount (m .answer)) next ∙ sym (ap (λ x. x .count) more),
-      c .before .before .put-words .ensures ∙ (λ z. area (l .inv .5 z) (l .inv .2 z) (l .inv .2 z + s .nets) (next z .session .words)) ∙ sym (ap (λ x. x .words) more),
+      ap (λ x. x .words) next ∙ sym (ap (λ x. x .session .words) more),
+      ap (λ x. x .count) next ∙ sym (ap (λ x. x .count) more),
+      c .before .before .put-words .ensures ∙ (λ z. area (l .inv .5 z) (l .inv .2 z) (l .inv .2 z + s .nets) (next z .words)) ∙ sym (ap (λ x. x .words) more),
     )
 
 same-length : tie.Need-same-length Inv-loop μ-loop
@@ -122,8 +166,8 @@ same-length c = room-long (c .before)
 returns : tie.Need-returns Inv-loop μ-loop
 returns c =
     let l = c .before .loop in
-    let a = c .before .before .before .before .args in
-    let ran : ℕ → ManyRan = λ j. manyBy Steps (a .s) (a .vectors .now) (a .s .inputs) j (a .room .now) in
+    let a = first (c .before) .args in
+    let ran : ℕ → ManyRan = λ j. manyBy Steps (a .t1) (a .vectors .now) (a .t1 .inputs) j (a .room .now) in
     let e : l .done ≡ a .k = omega (arith, l .inv .0, c .loop-test .left) in
     (l .inv .5 ∙ ap (λ j. ran j .words) e, l .inv .4 ∙ ap (λ j. ran j .count) e)
 
@@ -133,13 +177,13 @@ many-steps-spec =
     (tie.spec
     Inv-loop
     μ-loop
+    put-list-requires
     loop-holds
-    add-vector-steps
-    sub-vector-steps
-    part-vector-steps-start
-    part-vector-steps-end
-    vector-steps-requires
-    answer-count-requires
+    add-advance
+    sub-advance
+    part-advance-start
+    part-advance-end
+    advance-requires
     put-words-requires
     add-done
     add-from
