@@ -10,9 +10,9 @@ pub struct Rule {
     pub inversion: bool,
 }
 
-// Document 002's table, a column for each of the two, in which a gate type has the bit of its number; from the left: XNOR XOR, NOR OR, NAND AND, NOT BUF. BUF
-// and NOT have AND's and NAND's rows, of which they are what one pin gives; XOR and XNOR have no controlling value, and nothing reads it. An array of rows
-// would be laid out in memory again for each gate.
+// Document 002's table, a column of controlling values and one of inversions. The entry of a gate type is the bit of its number; from the left: XNOR XOR, NOR OR,
+// NAND AND, NOT BUF. BUF and NOT have AND's and NAND's rows, of which they are what one pin gives; XOR and XNOR have no controlling value, and nothing reads it.
+// An array of rows would be laid out in memory again for each gate.
 struct Table {
     controlling: u8,
     inversion: u8,
