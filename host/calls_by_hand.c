@@ -258,6 +258,10 @@ static uint64_t many(uint8_t *b, size_t length, const uint8_t *v, size_t size, u
             done = steps ? held.pairs : 0;
         else
             done = run(&h, engine, v + k * n) + (FAULT(22) ? done : 0);
+        if (FAULT(36) && steps && list.steps) {
+            list.gate[list.steps - 1] = list.gate[0];
+            list.time[list.steps - 1] = list.time[0];
+        }
         memcpy(words + k * nets, h.word + (FAULT(23) && k == count - 1 && nets > 1), nets * sizeof *words);
         keep_vector(b, engine, v + (FAULT(steps ? 91 : 24) && k + 2 == count ? k + 1 : k) * n, n);
     }

@@ -63,8 +63,8 @@ uint64_t krasvome_steps(uint8_t *session, size_t session_length, const uint8_t *
 uint64_t krasvome_vectors(uint8_t *session, size_t session_length, const uint8_t *vectors, size_t vectors_length, uint64_t *words, size_t words_length);
 
 /* The same step by step, one vector after another. Count: the steps done for each vector; 0 where there are none. 12, 10, 11, 18. The words are those of
- * krasvome_vectors, which takes less than a microsecond a vector on the largest cards; this call takes 20 to 30, tens of times as long: use that one, unless it is the
- * steps that you want. */
+ * krasvome_vectors, which took less than a microsecond a vector on the largest cards that were measured, on Arm; this call took 20 to 30. Use that one, unless it is
+ * the steps that you want. */
 uint64_t krasvome_vectors_steps(uint8_t *session, size_t session_length, const uint8_t *vectors, size_t vectors_length, uint64_t *words, size_t words_length);
 
 /* The last run: for each net a word (bit t is its value at time t, 0 to 63), its value from before, and its flag (0 no change, 1 one change, 2 static hazard,

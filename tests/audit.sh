@@ -85,5 +85,7 @@ seeded docs/REQUESTS.md 's,(rule/proofs/Numbers.antt),(rule/proofs/Number.antt),
 seeded crates.txt '/^text:/d' 'crates.txt does not have text'
 seeded host/krasvome.h 's/define KRASVOME_SESSION /&1/' 'host/krasvome.h does not say that a session has'
 seeded crates/host_made/src/lib.rt 's/OLDER_AT + older/259 + older/' 'host_made/src/lib.rt writes 259 out'
+seeded docs/NOTES.md '0,/^- Read /s//&the whole of the documents first, then every contract, and then /' 'docs/NOTES.md:3 has '
+seeded crates/gate/src/lib.rt '1s/$/ A line of code or of a definition that has more than two hundred characters is one that nobody reads to its end./' 'crates/gate/src/lib.rt:1 has '
 python3 tests/audit_test.py "$room/tree" >/dev/null
 echo "audit: $seen seeded faults found"

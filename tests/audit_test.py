@@ -11,6 +11,7 @@
    least, by what these say that they are of. docs/figures and docs/drawing would write what stands.
 4. host/krasvome.h has the length of a session that host_bytes has. No file of host_bytes, or of a crate that uses it, writes out where a part of a session stands, but for
    the definitions and the constants themselves.
+5. No line of prose in the README or in docs/ has more than 160 characters, and none of code or definitions more than 200.
 """
 import pathlib
 import re
@@ -247,6 +248,19 @@ for crate in re.findall(r"^(?=.*\bhost_bytes\b)(\w+):", (root / "crates.txt").re
             numbers = re.findall(r"\d[\d,]*", constant.sub("", file.read_text(encoding="utf-8")))
             for place in sorted(places & {number.replace(",", "") for number in numbers}):
                 faults.append(f"{file.relative_to(crates)} writes {place} out")
+
+# --- 5. lines
+
+
+def long_lines(files, most, but=()):
+    for file in files:
+        for number, line in enumerate(file.read_text(encoding="utf-8").splitlines(), 1):
+            if len(line) > most and not line.startswith(but):
+                faults.append(f"{file.relative_to(root)}:{number} has {len(line)} characters")
+
+
+long_lines([root / "README.md", *sorted((root / "docs").rglob("*.md"))], 160, ("|",))
+long_lines([*sorted(crates.glob("*/src/**/*.rt")), *sorted(crates.glob("*/specs/**/*.antt"))], 200)
 
 for fault in faults:
     print(f"audit: {fault}")

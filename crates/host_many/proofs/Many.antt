@@ -6,7 +6,7 @@ use Prim.Native.Nat.{ℕ, zero, suc, _+_, _-_, _*_, _/_, _%_, _<_, _≤_}
 use native.Mathlib.Nat.{le-div-iff-mul-le, div-lt-iff-lt-mul}
 use native.Mathlib.Omega.{arith}
 use lib.Dec.{eqb, leb}
-use lib.ListN.{length, getD}
+use lib.ListN.{length, getD, take, drop}
 use borrow.Author.Tests.{eq-eqb, ne-eqb, lt-leb, le-leb, leb-true, ltb-true}
 use Rattle.lists.specs.Entries.{_∈_, every}
 use Rattle.lists.specs.Listed.{listed}
@@ -14,7 +14,7 @@ use Rattle.lists.specs.Places.{part, area}
 use Rattle.lists.proofs.Tests.{every-at}
 use Rattle.lists.proofs.Order.{at-in}
 use Rattle.lists.proofs.Listed.{length-listed, out-listed}
-use Rattle.lists.proofs.Places.{turn-next, turn-fits, length-area, part-listed}
+use Rattle.lists.proofs.Places.{turn-next, turn-fits, place-fits, place-part, length-area, part-listed}
 use Rattle.rule.specs.Steps.{stepList}
 use Rattle.rule.specs.Numbers.{answerCount}
 use Rattle.rule.specs.declared.Refusal.the-variants.{NotReady, VectorLength, VectorByte, NoRoom}
@@ -24,12 +24,12 @@ use Rattle.inputs.specs.Inputs.{byteFits, given}
 use Rattle.fields.specs.Inner.Fields.{advanced}
 use Rattle.card.specs.declared.Session.{Session}
 use Rattle.card.specs.Session.{cardOf}
-use Rattle.session.specs.Good.{Good}
+use Rattle.card.specs.Held.{HasCard}
+use Rattle.session.specs.Good.{Good, Rested}
 use Rattle.session.specs.Moves.{movedBy, vectorOf}
 use Rattle.session.proofs.Moving.{words-long, words-move}
 use Rattle.session.proofs.SameCard.{SameCard, same-card, moved-same}
 use Rattle.session.proofs.Refusals.{vector-takes}
-use Rattle.step_run.specs.declared.Advanced.{Advanced}
 use Rattle.step_run.specs.Vector.{ranSession, stepsVectorOf}
 use Rattle.step_run.specs.Inner.Runs.{stepped}
 use Rattle.step_run.proofs.Vectors.{stepped-run, steps-takes}
@@ -82,6 +82,21 @@ many-vector vs n j fits l = record { size = ap length is ∙ length-listed byte 
         let low = ltb-true (byte i) byteLimit (every-at byteFits vs fits (byte i) (at-in vs (j * n + i) 0 (omega (arith, o .1)))) in
         omega (arith, o .2, low)
 
+-- One turn of a loop over many: with its bytes from place x on and its words from y on, vector j's bytes and the room for its words are there
+pub record Turn (s : Session) (vs : List ℕ) (room j x y : ℕ) : Type 0 where
+  pub bytes-fit : j * s .inputs + s .inputs ≤ length vs
+  pub bytes-there : x + s .inputs ≤ length vs
+  pub words-there : y + s .nets ≤ room
+  pub bytes-are : take (x + s .inputs - x) (drop x vs) ≡ part vs (j * s .inputs) (s .inputs)
+
+pub turn-has : (s : Session) (vs : List ℕ) (room k j x y : ℕ) → x ≡ j * s .inputs → y ≡ j * s .nets → j < k → k * s .inputs ≤ length vs → k * s .nets ≤ room → Turn s vs room j x y
+turn-has s vs room k j x y ex ey b lb lw = record {
+  bytes-fit = turn-fits j k (s .inputs) (length vs) b lb;
+  bytes-there = place-fits j (s .inputs) x ex k (length vs) b lb;
+  words-there = place-fits j (s .nets) y ey k room b lw;
+  bytes-are = place-part j (s .inputs) x ex vs;
+}
+
 -- Many vectors that fit, on a rested session: it keeps its card
 
 module _ (engine : Engine) (s : Session) (g : Good s) (r : s .rested ≡ true) (vs room : List ℕ) (fits : every byteFits vs ≡ true) where
@@ -115,11 +130,29 @@ module _ (engine : Engine) (s : Session) (g : Good s) (r : s .rested ≡ true) (
       let l′ = next-fits j l in
       next-left (left j) (many-left j (omega (arith, l′))) (bytes j) (many-vector vs (s .inputs) j fits l′)
 
-  pub left-long : (j : ℕ) → j * s .inputs ≤ length vs → length (left j .words) ≡ 256
-  left-long j l =
+  -- it has a card and a rest
+  left-held : (j : ℕ) → j * s .inputs ≤ length vs → HasCard (left j) × Rested (left j)
+  left-held j l =
       let g = many-left j l .good in
       let held = g .rest (many-left j l .same .rests) in
-      words-long (left j) (g .card (held .0)) (held .1)
+      (g .card (held .0), held .1)
+
+  pub left-long : (j : ℕ) → j * s .inputs ≤ length vs → length (left j .words) ≡ 256
+  left-long j l = let h = left-held j l in words-long (left j) (h .0) (h .1)
+
+  -- what vector j finds: a session with the same card, its rest, and bytes that fit it
+  pub record Found (z : Session) (v : List ℕ) : Type 0 where
+    pub same : SameCard s true z
+    pub card : HasCard z
+    pub rest : Rested z
+    pub vector : Vector (z .inputs) v
+
+  pub found : (j : ℕ) → j * s .inputs + s .inputs ≤ length vs → Found (left j) (bytes j)
+  found j l =
+      let below : j * s .inputs ≤ length vs = omega (arith, l) in
+      let same = many-left j below .same in
+      let h = left-held j below in
+      record { same = same; card = h .0; rest = h .1; vector = subst (λ x. Vector (x .inputs) (bytes j)) (sym (same .card)) (many-vector vs (s .inputs) j fits l) }
 
   -- each vector is done, with the count that the card has by the engine
   next-count : (j : ℕ) → j * s .inputs + s .inputs ≤ length vs → vectorBy engine (left j) (bytes j) .answer ≡ Done (countBy engine s)
@@ -160,17 +193,14 @@ module _ (s : Session) (g : Good s) (r : s .rested ≡ true) (vs room : List ℕ
       let v = part vs (j * s .inputs) (s .inputs) in
       advanced (s .feeds) (s .types) (s .counts) (s .places) (listed (λ i. getD (s .order) i 0) (s .gates)) (z .words) v ≡ vectorOf z v .session .words)
   next-words j l =
-      let h = many-left Fields s g r vs room fits j (omega (arith, l)) in
       let z = manyBy Fields s vs (s .inputs) j room .session in
       let v = part vs (j * s .inputs) (s .inputs) in
-      let rested : z .rested ≡ true = h .same .rests in
-      let w : Vector (z .inputs) v = subst (λ x. Vector (x .inputs) v) (sym (h .same .card)) (many-vector vs (s .inputs) j fits l) in
-      let held = h .good .rest rested in
-      sym (ap (λ x. advanced (x .feeds) (x .types) (x .counts) (x .places) (listed (λ i. getD (x .order) i 0) (x .gates)) (z .words) v) (h .same .card))
-      ∙ words-move z (h .good .card (held .0)) (held .1) v (w .size)
-      ∙ sym (ap (λ x. x .session .words) (vector-takes z v rested w))
+      let f = found Fields s g r vs room fits j l in
+      sym (ap (λ x. advanced (x .feeds) (x .types) (x .counts) (x .places) (listed (λ i. getD (x .order) i 0) (x .gates)) (z .words) v) (f .same .card))
+      ∙ words-move z (f .card) (f .rest) v (f .vector .size)
+      ∙ sym (ap (λ m. m .session .words) (vector-takes z v (f .same .rests) (f .vector)))
 
-  -- by steps too
+  -- by steps, with the count
   pub next-stepped : (j : ℕ) → j * s .inputs + s .inputs ≤ length vs
       → (let z = manyBy Steps s vs (s .inputs) j room .session in
       let v = part vs (j * s .inputs) (s .inputs) in
@@ -178,16 +208,13 @@ module _ (s : Session) (g : Good s) (r : s .rested ≡ true) (vs room : List ℕ
       stepped (s .feeds) (s .types) (s .counts) (s .places) (s .sets) (stepList (cardOf s)) (z .words) v ≡ record { words = m .session .words; count = answerCount (m .answer) })
   unfolding ranSession
   next-stepped j l =
-      let h = many-left Steps s g r vs room fits j (omega (arith, l)) in
       let z = manyBy Steps s vs (s .inputs) j room .session in
       let v = part vs (j * s .inputs) (s .inputs) in
-      let rested : z .rested ≡ true = h .same .rests in
-      let w : Vector (z .inputs) v = subst (λ x. Vector (x .inputs) v) (sym (h .same .card)) (many-vector vs (s .inputs) j fits l) in
-      let held = h .good .rest rested in
-      sym (ap (λ x. stepped (x .feeds) (x .types) (x .counts) (x .places) (x .sets) (stepList (cardOf s)) (z .words) v) (h .same .card))
-      ∙ ap (λ c. stepped (z .feeds) (z .types) (z .counts) (z .places) (z .sets) (stepList c) (z .words) v) (sym (same-card s true z (h .same)))
-      ∙ stepped-run z (h .good .card (held .0)) v (w .size) (stepList (cardOf z))
-      ∙ sym (ap (λ m. record { words = m .session .words; count = answerCount (m .answer) }) (steps-takes z v rested w))
+      let f = found Steps s g r vs room fits j l in
+      sym (ap (λ x. stepped (x .feeds) (x .types) (x .counts) (x .places) (x .sets) (stepList (cardOf s)) (z .words) v) (f .same .card))
+      ∙ ap (λ c. stepped (z .feeds) (z .types) (z .counts) (z .places) (z .sets) (stepList c) (z .words) v) (sym (same-card s true z (f .same)))
+      ∙ stepped-run z (f .card) v (f .vector .size) (stepList (cardOf z))
+      ∙ sym (ap (λ m. record { words = m .session .words; count = answerCount (m .answer) }) (steps-takes z v (f .same .rests) (f .vector)))
 
   -- by fields the count is 0
   pub fields-count : (k : ℕ) → k * s .inputs ≤ length vs → manyBy Fields s vs (s .inputs) k room .count ≡ 0

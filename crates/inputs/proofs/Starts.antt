@@ -1,7 +1,7 @@
 -- The start of a pass: a constant's value, the inputs' words, and that a vector's bytes reach the inputs and nothing else. Assumes nothing.
 use mathlib.Core.Path.{_≡_, refl, sym, ap, _∙_}
 use mathlib.Core.Bool.{false, not, cond}
-use mathlib.Core.List.{List, [], _∷_}
+use mathlib.Core.List.{List}
 use Prim.Native.Nat.{ℕ, zero, suc, _+_, _^_, _≤_, _<_}
 use native.Mathlib.Omega.{arith}
 use native.Mathlib.Decide.{ℕ-discrete}
@@ -11,7 +11,7 @@ use lib.ListN.{length, getD, set, length-set}
 use lib.Seq.{getD-set-same, getD-set-other}
 use borrow.Author.Tests.{eq-eqb, ne-eqb}
 use Rattle.lists.specs.Listed.{listed}
-use Rattle.lists.proofs.Listed.{is-listed}
+use Rattle.lists.proofs.Listed.{set-all, is-listed}
 use Rattle.word.specs.Word.{bit, isOne, wordOf}
 use Rattle.word.proofs.Words.{is-word}
 use Rattle.inputs.specs.Inputs.{isInputKind, rank, inputNets, given}
@@ -27,13 +27,6 @@ pub no-constant : (kind ty : ℕ) → ¬ (kind ≡ 2) → false ≡ constantAt k
 no-constant kind ty e = rw (ne-eqb kind 2 e)
 
 -- Inputs' words
-
-set-low : (b : ℕ) (xs : List ℕ) (i x : ℕ) → x < b → ((n : ℕ) → getD xs n 0 < b) → (n : ℕ) → getD (set xs i x) n 0 < b
-set-low b [] i x new old n = old n
-set-low b (y ∷ xs) zero x new old zero = new
-set-low b (y ∷ xs) zero x new old (suc n) = old (suc n)
-set-low b (y ∷ xs) (suc i) x new old zero = old zero
-set-low b (y ∷ xs) (suc i) x new old (suc n) = set-low b xs i x new (λ m. old (suc m)) n
 
 module _ (nets : List ℕ) (f : ℕ → ℕ) where
   pub put-none : (words : List ℕ) → words ≡ netsPut nets f 0 words
@@ -57,7 +50,7 @@ module _ (nets : List ℕ) (f : ℕ → ℕ) where
   pub put-low : (b : ℕ) → ((j : ℕ) → f j < b) → (words : List ℕ) → ((n : ℕ) → getD words n 0 < b) → (j n : ℕ) → getD (netsPut nets f j words) n 0 < b
   unfolding netsPut
   put-low b new words old zero n = old n
-  put-low b new words old (suc j) n = set-low b (netsPut nets f j words) (getD nets j 0) (f j) (new j) (put-low b new words old j) n
+  put-low b new words old (suc j) n = set-all (λ w. w < b) (netsPut nets f j words) (getD nets j 0) (f j) 0 (new j) (put-low b new words old j) n
 
 -- an input's word of its byte
 pub byte-word : (v : List ℕ) (j r : ℕ) → r < 2 ^ 64 → ((t : ℕ) → t < 64 → bit r t ≡ not (eqb (getD v j 0) 0)) → r ≡ byteWord v j

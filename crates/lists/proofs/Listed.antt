@@ -49,6 +49,14 @@ module _ {A : Type 0} where
       go (yes l) = rw (listed-at f n i d l) a
       go (no l) = rw (listed-past f n i d (omega arith)) b
 
+  -- what holds of every entry and of one that is put in holds of every entry afterwards
+  pub set-all : (P : A → Type 0) (xs : List A) (i : ℕ) (x d : A) → P x → ((n : ℕ) → P (getD xs n d)) → (n : ℕ) → P (getD (set xs i x) n d)
+  set-all P [] i x d new old n = old n
+  set-all P (y ∷ xs) zero x d new old zero = new
+  set-all P (y ∷ xs) zero x d new old (suc n) = old (suc n)
+  set-all P (y ∷ xs) (suc i) x d new old zero = old zero
+  set-all P (y ∷ xs) (suc i) x d new old (suc n) = set-all P xs i x d new (λ m. old (suc m)) n
+
   -- what stands in it
 
   as-map : (f : ℕ → A) (a n : ℕ) → map f (from a n) ≡ listedFrom f a n

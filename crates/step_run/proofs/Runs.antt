@@ -1,13 +1,14 @@
 -- Steps one after another, with their count: one step more, the count, and what a run needs of each step. Assumes nothing.
-use mathlib.Core.Path.{_≡_, refl, sym, ap, _∙_}
+use mathlib.Core.Path.{_≡_, refl, sym, ap, subst, _∙_}
 use mathlib.Core.List.{List, [], _∷_, _++_}
-use Prim.Native.Nat.{ℕ, _+_, _<_}
+use Prim.Native.Nat.{ℕ, _+_, _<_, _≤_}
 use native.Mathlib.Omega.{arith}
 use lib.ListN.{length}
 use Rattle.lists.specs.Entries.{_∈_}
 use Rattle.lists.specs.Listed.{listed}
 use Rattle.lists.proofs.Listed.{listed-none, listed-more, in-listed}
-use Rattle.rule.specs.Steps.{Step, IsStep}
+use Rattle.rule.specs.Steps.{Step, IsStep, stepList}
+use Rattle.rule.proofs.StepLists.{list-only}
 use Rattle.card_wiring.specs.Inner.Wires.{Gates}
 use Rattle.card.specs.declared.Session.{Session}
 use Rattle.card.specs.Session.{cardOf}
@@ -15,7 +16,9 @@ use Rattle.card.specs.Held.{HasCard}
 use Rattle.session.proofs.Held.{gate-fits}
 use Rattle.step_vars.specs.Variables.{stepIn}
 use Rattle.step_vars.specs.Inner.Variables.{StepTime}
-use Rattle.step_list.proofs.Cards.{step-low}
+use Rattle.step_list.specs.Inner.Listing.{stepsIn, gatesIn, Holds, stepsNamed}
+use Rattle.step_list.proofs.Cards.{list-held, list-few, step-low}
+use Rattle.step_list.proofs.Lists.{held-steps}
 use Rattle.step_run.specs.Runs.{Ran, ranFrom, ran}
 use Rattle.step_run.specs.Inner.Runs.{Doable}
 
@@ -60,3 +63,16 @@ module _ (types counts places sets : List ℕ) where
 -- the steps of a card may be done
 pub steps-doable : (s : Session) (h : HasCard s) (ks : List Step) → ((k : Step) → k ∈ ks → IsStep (cardOf s) k) → Doable (s .types) (s .counts) ks
 steps-doable s h ks all k m = let i = all k m in let l = step-low s h k i in (gate-fits s h (k .net) (i .gated), record { late = l .1; low = l .2 })
+
+-- the list that `put_list` leaves in two arrays of 4,096 places is the card's, and may be done
+pub record ListReady (s : Session) (nets times : List ℕ) (total : ℕ) : Type 0 where
+  pub few : total ≤ 4096
+  pub named : stepsNamed nets times total ≡ stepList (cardOf s)
+  pub doable : Doable (s .types) (s .counts) (stepsNamed nets times total)
+
+pub list-ready : (s : Session) (h : HasCard s) {nets₀ times₀ nets times : List ℕ} {total : ℕ} → Holds (stepsIn (s .sets) (gatesIn (s .order) (s .gates))) nets₀ times₀ nets times total
+    → length nets₀ ≡ 4096 → length times₀ ≡ 4096 → ListReady s nets times total
+list-ready s h held ln lt =
+    let few = list-few s h held in
+    let named = held-steps (list-held s h held) ln lt few in
+    record { few = few; named = named; doable = subst (Doable (s .types) (s .counts)) (sym named) (steps-doable s h (stepList (cardOf s)) (list-only (cardOf s))) }

@@ -2,13 +2,11 @@
 use mathlib.Core.Path.{_≡_, refl, ap, ap₂, _∙_}
 use mathlib.Core.Bool.{Bool, true, false, cond}
 use mathlib.Core.List.{List}
-use Prim.Native.Nat.{ℕ, _^_, _<_}
-use lib.Dec.{lit<}
+use Prim.Native.Nat.{ℕ, _<_}
 use lib.ListN.{length, getD}
 use Rattle.lists.specs.Listed.{listed}
-use Rattle.lists.proofs.Listed.{length-listed, listed-at, listed-all, listed-ext}
+use Rattle.lists.proofs.Listed.{length-listed, listed-at, listed-ext}
 use Rattle.word.specs.Word.{wordOf}
-use Rattle.word.proofs.Words.{word-lt}
 use Rattle.rule.specs.Steps.{Step, stepList}
 use Rattle.rule.specs.declared.Refusal.{Refusal}
 use Rattle.rule.specs.declared.Answer.the-variants.{Done}

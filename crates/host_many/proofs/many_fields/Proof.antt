@@ -8,14 +8,14 @@ use lib.ListN.{length, getD, take, drop}
 use borrow.Author.Needs.{needs}
 use Rattle.lists.specs.Listed.{listed}
 use Rattle.lists.specs.Places.{part, area}
-use Rattle.lists.proofs.Places.{turn-fits, place-next, place-fits, place-part}
+use Rattle.lists.proofs.Places.{place-next}
 use Rattle.fields.specs.Inner.Fields.{advanced}
 use Rattle.card.specs.Held.{HasCard}
 use Rattle.card.proofs.Kept.{card-wires, card-fitting}
 use Rattle.session.proofs.Held.{gates-fit, gates-once, feeds-fit}
 use Rattle.operations.specs.declared.Engine.the-variants.{Fields}
 use Rattle.host_many.specs.Many.{manyBy}
-use Rattle.host_many.proofs.Many.{many-more, many-length, many-vector, left-long, next-words}
+use Rattle.host_many.proofs.Many.{Turn, turn-has, many-more, many-length, many-vector, left-long, next-words}
 use Rattle.host_many.proofs.many_fields.Statement.{statement}
 use Rattle.host_many.proofs.many_fields.Tie as tie
 
@@ -42,33 +42,20 @@ abbrev begun : (c : tie.In-loop Inv-loop μ-loop) → tie.Start Inv-loop μ-loop
 begun c = first (c .before)
 
 -- the bytes of the next vector, and the room for its words, are there
-bytes-fit : (c : tie.In-loop Inv-loop μ-loop) → (let a = begun c .args in c .before .loop .done * a .t1 .inputs + a .t1 .inputs ≤ length (a .vectors .now))
-bytes-fit c = let a = begun c in turn-fits (c .before .loop .done) (a .args .k) (a .args .t1 .inputs) _ (c .loop-test .taken) (a .pre .1 .1 .0)
-
-bytes-there : (c : tie.In-loop Inv-loop μ-loop) → (let a = begun c .args in c .before .loop .from + a .t1 .inputs ≤ length (a .vectors .now))
-bytes-there c = let l = c .before .loop in let a = begun c in place-fits (l .done) (a .args .t1 .inputs) (l .from) (l .inv .1) (a .args .k) _ (c .loop-test .taken) (a .pre .1 .1 .0)
-
-words-there : (c : tie.In-loop Inv-loop μ-loop) → (let a = begun c .args in c .before .loop .at + a .t1 .nets ≤ length (a .room .now))
-words-there c = let l = c .before .loop in let a = begun c in place-fits (l .done) (a .args .t1 .nets) (l .at) (l .inv .2) (a .args .k) _ (c .loop-test .taken) (a .pre .1 .1 .2)
+has : (c : tie.In-loop Inv-loop μ-loop)
+    → (let l = c .before .loop in let a = begun c .args in Turn (a .t1) (a .vectors .now) (length (a .room .now)) (l .done) (l .from) (l .at))
+has c = let l = c .before .loop in let a = begun c in turn-has (a .args .t1) _ _ (a .args .k) (l .done) _ _ (l .inv .1) (l .inv .2) (c .loop-test .taken) (a .pre .1 .1 .0) (a .pre .1 .1 .2)
 
 -- the room has kept its length
 room-long : (l : tie.At-loop Inv-loop μ-loop) → length (l .loop .room) ≡ length (first l .args .room .now)
 room-long l = let a = first l .args in ap length (l .loop .inv .4) ∙ many-length Fields (a .t1) (a .vectors .now) (a .t1 .inputs) (l .loop .done) (a .room .now)
-
--- the bytes that are lent are the next vector's
-bytes-are : (c : tie.In-loop Inv-loop μ-loop)
-    → (let a = begun c .args in
-    let x = c .before .loop .from in
-    let n = a .t1 .inputs in
-    take (x + n - x) (drop x (a .vectors .now)) ≡ part (a .vectors .now) (c .before .loop .done * n) n)
-bytes-are c = let l = c .before .loop in let a = begun c .args in place-part (l .done) (a .t1 .inputs) (l .from) (l .inv .1) (a .vectors .now)
 
 -- after the next words were made: the turn that it is
 abbrev turn : (c : tie.After-advance Inv-loop μ-loop) → tie.In-loop Inv-loop μ-loop
 turn c = c .before .before .before .before .before .before .before .before .before
 
 add-advance : tie.Need-add-advance Inv-loop μ-loop
-add-advance c = let b = bytes-there (c .before .before .before .before .before .before .before) in search needs
+add-advance c = let b = has (c .before .before .before .before .before .before .before) .bytes-there in search needs
 
 sub-advance : tie.Need-sub-advance Inv-loop μ-loop
 sub-advance c = search needs
@@ -77,7 +64,7 @@ part-advance-start : tie.Need-part-advance-start Inv-loop μ-loop
 part-advance-start c = search needs
 
 part-advance-end : tie.Need-part-advance-end Inv-loop μ-loop
-part-advance-end c = let b = bytes-there (c .before .before .before .before .before .before .before) in search needs
+part-advance-end c = let b = has (c .before .before .before .before .before .before .before) .bytes-there in search needs
 
 advance-requires : tie.Need-advance-requires Inv-loop μ-loop
 advance-requires c κs =
@@ -86,8 +73,8 @@ advance-requires c κs =
     let a = begun i in
     let s = a .args .t1 in
     let h = card a in
-    let fits = bytes-fit i in
-    let size = ap length (bytes-are i) ∙ many-vector (a .args .vectors .now) (s .inputs) (l .done) (a .pre .1 .0 .1) fits .size in
+    let fits = has i .bytes-fit in
+    let size = ap length (has i .bytes-are) ∙ many-vector (a .args .vectors .now) (s .inputs) (l .done) (a .pre .1 .0 .1) fits .size in
     let fed = feeds-fit s h (take (l .from + s .inputs - l .from) (drop (l .from) (a .args .vectors .now))) size in
     let long = ap length (l .inv .3) ∙ left-long Fields s (a .pre .0) (a .pre .1 .0 .0) (a .args .vectors .now) (a .args .room .now) (a .pre .1 .0 .1) (l .done) (omega (arith, fits)) in
     (card-wires s h, (card-fitting s h, (gates-fit s h, (gates-once s h, (fed .0, fed .1, long)))))
@@ -95,7 +82,7 @@ advance-requires c κs =
 put-words-requires : tie.Need-put-words-requires Inv-loop μ-loop
 put-words-requires c κs =
     let i = turn (c .before .before) in
-    (begun i .pre .1 .1 .1, subst (λ x. i .before .loop .at + begun i .args .t1 .nets ≤ x) (sym (room-long (i .before))) (words-there i))
+    (begun i .pre .1 .1 .1, subst (λ x. i .before .loop .at + begun i .args .t1 .nets ≤ x) (sym (room-long (i .before))) (has i .words-there))
 
 -- after the words were put: where they were made
 abbrev made : (c : tie.After-slice-known2 Inv-loop μ-loop) → tie.After-advance Inv-loop μ-loop
@@ -105,10 +92,10 @@ add-done : tie.Need-add-done Inv-loop μ-loop
 add-done c = search needs
 
 add-from : tie.Need-add-from Inv-loop μ-loop
-add-from c = let b = bytes-there (turn (made c)) in search needs
+add-from c = let b = has (turn (made c)) .bytes-there in search needs
 
 add-at : tie.Need-add-at Inv-loop μ-loop
-add-at c = let b = words-there (turn (made c)) in search needs
+add-at c = let b = has (turn (made c)) .words-there in search needs
 
 loop-less : tie.Need-loop-less Inv-loop μ-loop
 loop-less c = search needs
@@ -124,9 +111,9 @@ loop-again c =
     let order = listed (λ k. getD (s .order) k 0) (s .gates) in
     let next =
     made c .advance .ensures
-    ∙ ap (advanced (s .feeds) (s .types) (s .counts) (s .places) order (l .words)) (bytes-are i)
+    ∙ ap (advanced (s .feeds) (s .types) (s .counts) (s .places) order (l .words)) (has i .bytes-are)
     ∙ ap (λ ws. advanced (s .feeds) (s .types) (s .counts) (s .places) order ws (part vs (l .done * s .inputs) (s .inputs))) (l .inv .3)
-    ∙ next-words s (a .pre .0) (a .pre .1 .0 .0) vs room (a .pre .1 .0 .1) (l .done) (bytes-fit i) in
+    ∙ next-words s (a .pre .0) (a .pre .1 .0 .0) vs room (a .pre .1 .0 .1) (l .done) (has i .bytes-fit) in
     let more = many-more Fields s vs (s .inputs) (l .done) room in (
       omega (arith, i .loop-test .taken),
       place-next (l .done) (s .inputs) (l .from) (l .inv .1),

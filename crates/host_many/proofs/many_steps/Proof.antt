@@ -7,21 +7,18 @@ use native.Mathlib.Omega.{arith}
 use lib.ListN.{length, take, drop}
 use borrow.Author.Needs.{needs}
 use Rattle.lists.specs.Places.{part, area}
-use Rattle.lists.proofs.Places.{turn-fits, place-next, place-fits, place-part}
+use Rattle.lists.proofs.Places.{place-next}
 use Rattle.rule.specs.Steps.{stepList}
-use Rattle.rule.proofs.StepLists.{list-only}
 use Rattle.card.specs.Session.{cardOf}
 use Rattle.card.specs.Held.{HasCard}
 use Rattle.card.proofs.Kept.{card-wires, card-fitting}
 use Rattle.session.proofs.Held.{feeds-fit}
-use Rattle.step_list.specs.Inner.Listing.{stepsNamed}
-use Rattle.step_list.proofs.Cards.{list-asked, list-held, list-few}
-use Rattle.step_list.proofs.Lists.{held-steps}
-use Rattle.step_run.specs.Inner.Runs.{Doable, stepped}
-use Rattle.step_run.proofs.Runs.{steps-doable}
+use Rattle.step_list.proofs.Cards.{list-asked}
+use Rattle.step_run.specs.Inner.Runs.{stepped}
+use Rattle.step_run.proofs.Runs.{ListReady, list-ready}
 use Rattle.operations.specs.declared.Engine.the-variants.{Steps}
 use Rattle.host_many.specs.Many.{ManyRan, manyBy}
-use Rattle.host_many.proofs.Many.{many-more, many-length, many-vector, next-stepped}
+use Rattle.host_many.proofs.Many.{Turn, turn-has, many-more, many-length, many-vector, next-stepped}
 use Rattle.host_many.proofs.many_steps.Statement.{statement}
 use Rattle.host_many.proofs.many_steps.Tie as tie
 
@@ -51,12 +48,8 @@ abbrev begun : (c : tie.In-loop Inv-loop μ-loop) → tie.Start Inv-loop μ-loop
 begun c = first (c .before)
 
 -- the list that is put is the card's
-few : (c : tie.After-put-list Inv-loop μ-loop) → c .put-list .result ≤ 4096
-few c = let a = at-listed c in list-few (a .args .t1) (card a) (c .put-list .ensures)
-
-named : (c : tie.After-put-list Inv-loop μ-loop)
-    → stepsNamed (c .put-list .last .0) (c .put-list .last .1 .0) (c .put-list .result) ≡ stepList (cardOf (at-listed c .args .t1))
-named c = let a = at-listed c in held-steps (list-held (a .args .t1) (card a) (c .put-list .ensures)) (search needs) (search needs) (few c)
+ready : (c : tie.After-put-list Inv-loop μ-loop) → ListReady (at-listed c .args .t1) (c .put-list .last .0) (c .put-list .last .1 .0) (c .put-list .result)
+ready c = let a = at-listed c in list-ready (a .args .t1) (card a) (c .put-list .ensures) (search needs) (search needs)
 
 put-list-requires : tie.Need-put-list-requires Inv-loop μ-loop
 put-list-requires c κs = let a = c .before .before .before .before .before .before .before in (list-asked (a .args .t1) (card a), search needs)
@@ -66,33 +59,20 @@ unfolding manyBy
 loop-holds c = let s = at-listed (c .before) .args .t1 in (omega arith, sym (zero-mul (s .inputs)), sym (zero-mul (s .nets)), refl, refl, refl)
 
 -- the bytes of the next vector, and the room for its words, are there
-bytes-fit : (c : tie.In-loop Inv-loop μ-loop) → (let a = begun c .args in c .before .loop .done * a .t1 .inputs + a .t1 .inputs ≤ length (a .vectors .now))
-bytes-fit c = let a = begun c in turn-fits (c .before .loop .done) (a .args .k) (a .args .t1 .inputs) _ (c .loop-test .taken) (a .pre .1 .1 .0)
-
-bytes-there : (c : tie.In-loop Inv-loop μ-loop) → (let a = begun c .args in c .before .loop .from + a .t1 .inputs ≤ length (a .vectors .now))
-bytes-there c = let l = c .before .loop in let a = begun c in place-fits (l .done) (a .args .t1 .inputs) (l .from) (l .inv .1) (a .args .k) _ (c .loop-test .taken) (a .pre .1 .1 .0)
-
-words-there : (c : tie.In-loop Inv-loop μ-loop) → (let a = begun c .args in c .before .loop .at + a .t1 .nets ≤ length (a .room .now))
-words-there c = let l = c .before .loop in let a = begun c in place-fits (l .done) (a .args .t1 .nets) (l .at) (l .inv .2) (a .args .k) _ (c .loop-test .taken) (a .pre .1 .1 .2)
+has : (c : tie.In-loop Inv-loop μ-loop)
+    → (let l = c .before .loop in let a = begun c .args in Turn (a .t1) (a .vectors .now) (length (a .room .now)) (l .done) (l .from) (l .at))
+has c = let l = c .before .loop in let a = begun c in turn-has (a .args .t1) _ _ (a .args .k) (l .done) _ _ (l .inv .1) (l .inv .2) (c .loop-test .taken) (a .pre .1 .1 .0) (a .pre .1 .1 .2)
 
 -- the room has kept its length
 room-long : (l : tie.At-loop Inv-loop μ-loop) → length (l .loop .room) ≡ length (first l .args .room .now)
 room-long l = let a = first l .args in ap length (l .loop .inv .5) ∙ many-length Steps (a .t1) (a .vectors .now) (a .t1 .inputs) (l .loop .done) (a .room .now)
-
--- the bytes that are lent are the next vector's
-bytes-are : (c : tie.In-loop Inv-loop μ-loop)
-    → (let a = begun c .args in
-    let x = c .before .loop .from in
-    let n = a .t1 .inputs in
-    take (x + n - x) (drop x (a .vectors .now)) ≡ part (a .vectors .now) (c .before .loop .done * n) n)
-bytes-are c = let l = c .before .loop in let a = begun c .args in place-part (l .done) (a .t1 .inputs) (l .from) (l .inv .1) (a .vectors .now)
 
 -- after the next words were made: the turn that it is
 abbrev turn : (c : tie.After-advance Inv-loop μ-loop) → tie.In-loop Inv-loop μ-loop
 turn c = c .before .before .before .before .before .before .before .before .before .before .before
 
 add-advance : tie.Need-add-advance Inv-loop μ-loop
-add-advance c = let b = bytes-there (c .before .before .before .before .before .before .before .before .before) in search needs
+add-advance c = let b = has (c .before .before .before .before .before .before .before .before .before) .bytes-there in search needs
 
 sub-advance : tie.Need-sub-advance Inv-loop μ-loop
 sub-advance c = search needs
@@ -101,7 +81,7 @@ part-advance-start : tie.Need-part-advance-start Inv-loop μ-loop
 part-advance-start c = search needs
 
 part-advance-end : tie.Need-part-advance-end Inv-loop μ-loop
-part-advance-end c = let b = bytes-there (c .before .before .before .before .before .before .before .before .before) in search needs
+part-advance-end c = let b = has (c .before .before .before .before .before .before .before .before .before) .bytes-there in search needs
 
 advance-requires : tie.Need-advance-requires Inv-loop μ-loop
 advance-requires c κs =
@@ -110,15 +90,15 @@ advance-requires c κs =
     let a = begun i in
     let s = a .args .t1 in
     let h = card a in
-    let size = ap length (bytes-are i) ∙ many-vector (a .args .vectors .now) (s .inputs) (l .done) (a .pre .1 .0 .1) (bytes-fit i) .size in
+    let size = ap length (has i .bytes-are) ∙ many-vector (a .args .vectors .now) (s .inputs) (l .done) (a .pre .1 .0 .1) (has i .bytes-fit) .size in
     let fed = feeds-fit s h (take (l .from + s .inputs - l .from) (drop (l .from) (a .args .vectors .now))) size in
-    let doable = subst (Doable (s .types) (s .counts)) (sym (named (list (i .before)))) (steps-doable s h (stepList (cardOf s)) (list-only (cardOf s))) in
-    (card-wires s h, (card-fitting s h, ((few (list (i .before)), fed .0, fed .1), doable)))
+    let put = ready (list (i .before)) in
+    (card-wires s h, (card-fitting s h, ((put .few, fed .0, fed .1), put .doable)))
 
 put-words-requires : tie.Need-put-words-requires Inv-loop μ-loop
 put-words-requires c κs =
     let i = turn (c .before .before .before) in
-    (begun i .pre .1 .1 .1, subst (λ x. i .before .loop .at + begun i .args .t1 .nets ≤ x) (sym (room-long (i .before))) (words-there i))
+    (begun i .pre .1 .1 .1, subst (λ x. i .before .loop .at + begun i .args .t1 .nets ≤ x) (sym (room-long (i .before))) (has i .words-there))
 
 -- after the words were put: where they were made
 abbrev made : (c : tie.After-slice-known2 Inv-loop μ-loop) → tie.After-advance Inv-loop μ-loop
@@ -128,10 +108,10 @@ add-done : tie.Need-add-done Inv-loop μ-loop
 add-done c = let s = begun (turn (made c)) in let b = turn (made c) .loop-test .taken in search needs
 
 add-from : tie.Need-add-from Inv-loop μ-loop
-add-from c = let s = begun (turn (made c)) in let b = bytes-there (turn (made c)) in search needs
+add-from c = let s = begun (turn (made c)) in let b = has (turn (made c)) .bytes-there in search needs
 
 add-at : tie.Need-add-at Inv-loop μ-loop
-add-at c = let s = begun (turn (made c)) in let b = words-there (turn (made c)) in search needs
+add-at c = let s = begun (turn (made c)) in let b = has (turn (made c)) .words-there in search needs
 
 loop-less : tie.Need-loop-less Inv-loop μ-loop
 loop-less c = search needs
@@ -147,10 +127,10 @@ loop-again c =
     let lent = take (l .from + s .inputs - l .from) (drop (l .from) vs) in
     let next =
     made c .advance .ensures
-    ∙ ap (λ ks. stepped (s .feeds) (s .types) (s .counts) (s .places) (s .sets) ks (l .last) lent) (named (list (i .before)))
-    ∙ ap (stepped (s .feeds) (s .types) (s .counts) (s .places) (s .sets) (stepList (cardOf s)) (l .last)) (bytes-are i)
+    ∙ ap (λ ks. stepped (s .feeds) (s .types) (s .counts) (s .places) (s .sets) ks (l .last) lent) (ready (list (i .before)) .named)
+    ∙ ap (stepped (s .feeds) (s .types) (s .counts) (s .places) (s .sets) (stepList (cardOf s)) (l .last)) (has i .bytes-are)
     ∙ ap (λ ws. stepped (s .feeds) (s .types) (s .counts) (s .places) (s .sets) (stepList (cardOf s)) ws (part vs (l .done * s .inputs) (s .inputs))) (l .inv .3)
-    ∙ next-stepped s (a .pre .0) (a .pre .1 .0 .0) vs room (a .pre .1 .0 .1) (l .done) (bytes-fit i) in
+    ∙ next-stepped s (a .pre .0) (a .pre .1 .0 .0) vs room (a .pre .1 .0 .1) (l .done) (has i .bytes-fit) in
     let more = many-more Steps s vs (s .inputs) (l .done) room in (
       omega (arith, i .loop-test .taken),
       place-next (l .done) (s .inputs) (l .from) (l .inv .1),

@@ -7,7 +7,6 @@ use Rattle.step_vars.specs.Inner.Variables.{Words, startIn}
 use Rattle.step_vars.proofs.Stores.{start-words}
 use Rattle.step_list.specs.Inner.Listing.{stepsNamed}
 use Rattle.step_run.specs.Runs.{Ran, ran}
-use Rattle.step_run.specs.declared.Advanced.{Advanced}
 use Rattle.step_run.specs.Inner.Runs.{stepped}
 use Rattle.step_run.proofs.advance.Statement.{statement}
 use Rattle.step_run.proofs.advance.Tie as tie
