@@ -158,10 +158,9 @@ int sim_load(struct sim *s, const uint8_t *bytes, size_t length)
 
 /* Evaluating */
 
-/* "From now on an open pin reads as a constant 1" (document 02, d). */
 static int pin_value(const struct sim *s, int pin)
 {
-    return pin == SIM_OPEN ? 1 : s->value[pin];
+    return pin == SIM_OPEN ? 0 : s->value[pin];
 }
 
 /* Document 002: a pin at the controlling value c decides, c with the inversion i; else it is the other value. AND 0 0, NAND 0 1, OR 1 0, NOR 1 1. */

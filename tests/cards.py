@@ -168,7 +168,7 @@ class Bench:
 
     def gate_now(self, state, net):
         _, ty, pins = self.card.nets[net]
-        return function(ty, [1 if p == OPEN else state[p] for p in pins])
+        return function(ty, [0 if p == OPEN else state[p] for p in pins])
 
     def rest(self, vector):
         if self.card is None:

@@ -1,4 +1,4 @@
--- P1 to P10 of document 01, P10 as document 02 has it, by an engine: a row an example, a line a call with what it must hand back. Assumes nothing.
+-- P1 to P10 of document 01, by an engine: a row an example, a line a call with what it must hand back. Assumes nothing.
 use Rattle.std.specs.Prelude.{List, [], ◌∷◌, ◌++◌, ℕ, ◌-◌, ◌^◌}
 use Rattle.rule.specs.Net.{Net, input, gate, open_pin}
 use Rattle.card_records.specs.Example.{example_card}
@@ -156,11 +156,9 @@ p9 e =
     raised e (input ∷ gate 6 (0 ∷ 0 ∷ []) ∷ []) 2 1 (ones ∷ 0 ∷ []) (0 ∷ 0 ∷ []) (1 ∷ 0 ∷ [])
     ++ ((ask 1 gives known 1 2) ∷ [])
 
--- document 02, d: "Example P10 becomes AND(a, open) = a one unit later"; "PC-sets and levels stay." Document 01 had it steady 0.
+-- "P10: AND(a, open): steady 0."
 abbrev pub p10 : Engine → List Line
-p10 e =
-    raised e (input ∷ gate 2 (0 ∷ open_pin ∷ []) ∷ []) 2 1 (ones ∷ (ones - 1) ∷ []) (0 ∷ 0 ∷ []) (1 ∷ 1 ∷ [])
-    ++ ((ask 1 gives known 1 2) ∷ [])
+p10 e = raised e (input ∷ gate 2 (0 ∷ open_pin ∷ []) ∷ []) 2 1 (ones ∷ 0 ∷ []) (0 ∷ 0 ∷ []) (1 ∷ 0 ∷ [])
 
 unfoldable pub table : Engine → List (List Line)
 table e = p1 e ∷ p2 ∷ p3 e ∷ p4 ∷ p5 e ∷ p6 e ∷ p7 e ∷ p8 e ∷ p9 e ∷ p10 e ∷ []

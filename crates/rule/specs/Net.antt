@@ -13,9 +13,9 @@ pub data Net : Type 0 where
 unfoldable pub open_pin : ℕ
 open_pin = 65535
 
--- document 02, d: "From now on an open pin reads as a constant 1". Document 01 had a constant 0.
+-- "An open pin reads as if wired to a constant 0."
 unfoldable pub open_value : Bool
-open_value = true
+open_value = false
 
 -- what a pin finds in f, a function of the nets: of an open pin, which names no net, it is `loose`
 unfoldable pub at_pin : {A : Type 0} → A → (ℕ → A) → ℕ → A
