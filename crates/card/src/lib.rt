@@ -14,7 +14,7 @@ use card_wiring::Verdict;
 use rule::{Answer, NetAnswer, Refusal};
 
 // A card, laid out in arrays, its rest and the histories of the last vector. The operations take it by value and hand it back.
-#[derive(Drop)]
+#[derive(Clone, Copy)]
 pub struct Session {
     // A card is loaded; it is rested.
     pub loaded: bool,
@@ -61,7 +61,7 @@ pub fn empty() -> Session
     }
 }
 
-#[derive(Drop)]
+#[derive(Clone, Copy)]
 pub struct Loaded {
     pub answer: Answer,
     pub session: Session,

@@ -7,7 +7,7 @@ ghost use Rattle.card_records.specs.Inner.Reading.{parsed_of, NetHead, laid};
 use rule::Refusal;
 
 // What is wrong with a record.
-#[derive(Drop)]
+#[derive(Clone, Copy)]
 pub enum Fault {
     // The input ends inside its head.
     NoHead,
@@ -20,7 +20,7 @@ pub enum Fault {
 }
 
 // A net's record: its kind, a constant's value or a gate's type, where its pins start, how many there are, and where the next record starts.
-#[derive(Drop)]
+#[derive(Clone, Copy)]
 pub struct NetRecord {
     pub kind: u8,
     pub ty: u8,
@@ -30,7 +30,7 @@ pub struct NetRecord {
 }
 
 // What stands at a place of the bytes.
-#[derive(Drop)]
+#[derive(Clone, Copy)]
 pub enum Record {
     Bad(Fault),
     // The end of the card, and the place after it.
@@ -39,7 +39,7 @@ pub enum Record {
 }
 
 // A place in the bytes.
-#[derive(Drop)]
+#[derive(Clone, Copy)]
 pub struct Cursor {
     pub at: usize,
 }
@@ -61,7 +61,7 @@ pub fn u16_at(s: &[u8], i: usize) -> usize
 }
 
 // Whether a body of so many bytes fits a kind.
-pub fn kind_fits_lem(kind: usize, len: usize) -> bool
+pub fn kind_fits(kind: usize, len: usize) -> bool
     ensures { result ≡ kind_fits kind len }
 {
     match kind {
@@ -203,13 +203,13 @@ fn put_pins(places: &mut [u16; 2048], s: &[u8], n: usize, start: usize, count: u
 }
 
 // What reading a card comes to: refused, or so many nets.
-#[derive(Drop)]
+#[derive(Clone, Copy)]
 pub enum Outcome {
     Refused(Refusal),
     Read(usize),
 }
 
-#[derive(Drop)]
+#[derive(Clone, Copy)]
 pub struct Parsed {
     pub outcome: Outcome,
     pub kinds: [u8; 256],

@@ -185,7 +185,7 @@ pub fn highest_of(levels: &[u64; 256], n: usize) -> u64
     top
 }
 
-#[derive(Drop)]
+#[derive(Clone, Copy)]
 pub struct Order {
     pub gates: usize,
     pub list: [u16; 256],
@@ -326,13 +326,13 @@ pub fn sizes_of<'a>(sets: &'a [u64; 256], order: &'a [u16; 256], gates: usize) -
 }
 
 // What the judgement of a wiring comes to.
-#[derive(Drop)]
+#[derive(Clone, Copy)]
 pub enum Verdict {
     Refused(Refusal),
     Passed,
 }
 
-#[derive(Drop)]
+#[derive(Clone, Copy)]
 pub struct Wired {
     pub verdict: Verdict,
     pub gates: usize,

@@ -138,7 +138,7 @@ pub fn list_line(session: Session, a: u64, b: u64, out: &mut [u8; 8192], at: usi
 }
 
 // What the step list as records answers, and all the room that a part was lent of.
-#[derive(Drop)]
+#[derive(Clone, Copy)]
 struct Recorded {
     answer: Answer,
     room: [StepRecord; 20000],

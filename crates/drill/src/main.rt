@@ -19,7 +19,7 @@ use lines::{bench_line, history_line, list_line, move_line, net_line, records_li
 use operations::{Engine, Move};
 
 // What a line leaves: the session, and how far the answers' buffer is filled.
-#[derive(Drop)]
+#[derive(Clone, Copy)]
 pub struct Turn {
     pub session: Session,
     pub at: usize,

@@ -4,7 +4,7 @@ mod lines;
 pub use lines::command_of;
 
 // What a line asks for. Bytes stay in the line, as word 1; an order is word 2.
-#[derive(Drop)]
+#[derive(Clone, Copy)]
 pub enum Command {
     Bad,
     Load,

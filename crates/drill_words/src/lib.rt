@@ -9,7 +9,7 @@ pub use orders::{is_order, order_into};
 pub use parts::{word, word_count};
 
 // A number that a word spells, if it does.
-#[derive(Drop)]
+#[derive(Clone, Copy)]
 pub enum Number {
     Spelled(u64),
     Unreadable,

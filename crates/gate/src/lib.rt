@@ -4,7 +4,7 @@ ghost use Rattle.word.specs.Word.{bit, differ, moved_up};
 ghost use Rattle.gate.specs.Inner.Pins.{with_pin};
 ghost use Rattle.gate.specs.Gate.{controls, inverts};
 
-#[derive(Drop)]
+#[derive(Clone, Copy)]
 pub struct Rule {
     pub controlling: bool,
     pub inversion: bool,
@@ -13,7 +13,7 @@ pub struct Rule {
 // Document 002's table, a column of controlling values and one of inversions. The entry of a gate type is the bit of its number; from the left: XNOR XOR, NOR OR,
 // NAND AND, NOT BUF. BUF and NOT have AND's and NAND's rows, of which they are what one pin gives; XOR and XNOR have no controlling value, and nothing reads it.
 // An array of rows would be laid out in memory again for each gate.
-#[derive(Drop)]
+#[derive(Clone, Copy)]
 struct Table {
     controlling: u8,
     inversion: u8,

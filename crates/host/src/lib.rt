@@ -23,7 +23,7 @@ fn pack(answer: Answer) -> u64
 }
 
 // What a call leaves of the bytes: those of the session that was left, if it was done.
-fn left_by_lem(how: Move, answer: Answer, b: &mut [u8], v: &[u8]) -> u64
+fn left_by(how: Move, answer: Answer, b: &mut [u8], v: &[u8]) -> u64
     requires { session_length ≤ length b.old }
     ensures { record { answer = result; bytes = b.new } ≡ left_by how answer b.old v.now }
 {
@@ -49,7 +49,7 @@ fn host_move(how: Move, b: &mut [u8], v: &[u8]) -> u64
     }
     let left = operations::operate(how, made.session, v);
     let answer = left.answer;
-    left_by_lem(how, answer, b, v)
+    left_by(how, answer, b, v)
 }
 
 #[unsafe(no_mangle)]

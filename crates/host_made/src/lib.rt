@@ -11,7 +11,7 @@ use rule::Answer;
 use session::Moved;
 
 // What lent bytes hold: whether they are bytes that these calls leave, and the session.
-#[derive(Drop)]
+#[derive(Clone, Copy)]
 pub struct Made {
     pub whole: bool,
     pub session: Session,

@@ -49,9 +49,12 @@ out_when false xs x m = absurd (Memᴰ.not-nil m)
 -- `each`
 
 module _ {A B : Type 0} (f : A → List B) where
+  in_one : (x : A) (y : B) (xs : List A) → x ∈ xs → y ∈ f x → y ∈ each f xs
+  in_one x y xs (Memᴰ.head {x = z} {xs = zs} e) h = Memᴰ.append_left (each f zs) (rw e at h)
+  in_one x y xs (Memᴰ.tail {x = z} {xs = zs} m) h = Memᴰ.append_right (f z) (in_one x y zs m h)
+
   pub in_each : (xs : List A) (x : A) (y : B) → x ∈ xs → y ∈ f x → y ∈ each f xs
-  in_each xs x y (Memᴰ.head {x = z} {xs = zs} e) h = Memᴰ.append_left (each f zs) (rw e at h)
-  in_each xs x y (Memᴰ.tail {x = z} {xs = zs} m) h = Memᴰ.append_right (f z) (in_each zs x y m h)
+  in_each xs x y = in_one x y xs
 
   pub out_each : (xs : List A) (y : B) → y ∈ each f xs → (x : A) × (x ∈ xs) × (y ∈ f x)
   out_each [] y m = absurd (Memᴰ.not-nil m)

@@ -12,13 +12,13 @@ use Rattle.lists.proofs.Joined.{in_from, length_from}
 
 module _ {A : Type 0} where
   -- a list with an entry taken out is one shorter, and has every other entry
-  without : (ys : List A) (x : A) → x ∈ ys → (zs : List A) × (length ys ≡ suc (length zs)) × ((y : A) → ¬ (y ≡ x) → y ∈ ys → y ∈ zs)
-  without ys x (Memᴰ.head {x = z} {xs = zs} e) = (zs, refl, λ y ne m. keep y ne (Memᴰ.cases_cons m))
+  without : (x : A) (ys : List A) → x ∈ ys → (zs : List A) × (length ys ≡ suc (length zs)) × ((y : A) → ¬ (y ≡ x) → y ∈ ys → y ∈ zs)
+  without x ys (Memᴰ.head {x = z} {xs = zs} e) = (zs, refl, λ y ne m. keep y ne (Memᴰ.cases_cons m))
     where
       keep : (y : A) → ¬ (y ≡ x) → (y ≡ z) ⊎ (y ∈ zs) → y ∈ zs
       keep y ne (inl q) = absurd (ne (q ∙ sym e))
       keep y ne (inr m) = m
-  without ys x (Memᴰ.tail {x = z} {xs = zs} m) = go (without zs x m)
+  without x ys (Memᴰ.tail {x = z} {xs = zs} m) = go (without x zs m)
     where
       go : (ws : List A) × (length zs ≡ suc (length ws)) × ((y : A) → ¬ (y ≡ x) → y ∈ zs → y ∈ ws)
           → (ws : List A) × (suc (length zs) ≡ suc (length ws)) × ((y : A) → ¬ (y ≡ x) → y ∈ z ∷ zs → y ∈ ws)
@@ -31,7 +31,7 @@ module _ {A : Type 0} where
   pub distinct_length : (xs ys : List A) → Distinct xs → ((x : A) → x ∈ xs → x ∈ ys) → length xs ≤ length ys
   distinct_length [] ys d h = omega arith
   distinct_length (x ∷ xs) ys d h =
-      let w = without ys x (h x (Memᴰ.head refl)) in
+      let w = without x ys (h x (Memᴰ.head refl)) in
       let l = distinct_length xs w.0 d.1 (λ y m. w.2 y (λ e. d.0 y m (sym e)) (h y (Memᴰ.tail m))) in
       omega (arith, w.1)
 

@@ -18,13 +18,16 @@ module _ {A : Type 0} where
   some_no f [] h = refl
   some_no f (x ∷ xs) h = rw (h x (Memᴰ.head refl)) (some_no f xs (λ y m. h y (Memᴰ.tail m)))
 
-  pub some_in : (f : A → Bool) (xs : List A) (x : A) → x ∈ xs → f x ≡ true → some f xs ≡ true
-  some_in f xs x (Memᴰ.head {x = y} {xs = ys} e) p = rw (← e) (ap (λ b. b || some f ys) p)
-  some_in f xs x (Memᴰ.tail {x = y} {xs = ys} m) p = rw (some_in f ys x m p) (any (f y))
+  some_with : (f : A → Bool) (x : A) (xs : List A) → x ∈ xs → f x ≡ true → some f xs ≡ true
+  some_with f x xs (Memᴰ.head {x = y} {xs = ys} e) p = rw (← e) (ap (λ b. b || some f ys) p)
+  some_with f x xs (Memᴰ.tail {x = y} {xs = ys} m) p = rw (some_with f x ys m p) (any (f y))
     where
       any : (b : Bool) → (b || true) ≡ true
       any true = refl
       any false = refl
+
+  pub some_in : (f : A → Bool) (xs : List A) (x : A) → x ∈ xs → f x ≡ true → some f xs ≡ true
+  some_in f xs x = some_with f x xs
 
   pub some_out : (f : A → Bool) (xs : List A) → some f xs ≡ true → (x : A) × (x ∈ xs) × (f x ≡ true)
   some_out f [] e = absurd (false≢true e)
@@ -48,9 +51,12 @@ module _ {A : Type 0} where
   every_yes f [] h = refl
   every_yes f (x ∷ xs) h = rw (h x (Memᴰ.head refl)) (every_yes f xs (λ y m. h y (Memᴰ.tail m)))
 
+  each_of : (f : A → Bool) (x : A) (xs : List A) → every f xs ≡ true → x ∈ xs → f x ≡ true
+  each_of f x xs e (Memᴰ.head {x = y} {xs = ys} q) = ap f q ∙ (and_both (f y) (every f ys) e).0
+  each_of f x xs e (Memᴰ.tail {x = y} {xs = ys} m) = each_of f x ys (and_both (f y) (every f ys) e).1 m
+
   pub every_at : (f : A → Bool) (xs : List A) → every f xs ≡ true → (x : A) → x ∈ xs → f x ≡ true
-  every_at f xs e x (Memᴰ.head {x = y} {xs = ys} q) = ap f q ∙ (and_both (f y) (every f ys) e).0
-  every_at f xs e x (Memᴰ.tail {x = y} {xs = ys} m) = every_at f ys (and_both (f y) (every f ys) e).1 x m
+  every_at f xs e x = each_of f x xs e
 
   pub every_no : (f : A → Bool) (xs : List A) (x : A) → x ∈ xs → f x ≡ false → every f xs ≡ false
   every_no f xs x m e = go (every f xs) refl
@@ -94,9 +100,12 @@ module _ {A : Type 0} where
         ap₂ ◌∷◌ (h x o.0) (map_unless f g test xs h o.1)
 
     -- an entry of a map comes from an entry
+    mapped : (f : A → B) (x : A) (xs : List A) → x ∈ xs → f x ∈ map f xs
+    mapped f x xs (Memᴰ.head {x = y} {xs = ys} e) = Memᴰ.head (ap f e)
+    mapped f x xs (Memᴰ.tail {x = y} {xs = ys} m) = Memᴰ.tail (mapped f x ys m)
+
     pub in_map : (f : A → B) (xs : List A) (x : A) → x ∈ xs → f x ∈ map f xs
-    in_map f xs x (Memᴰ.head {x = y} {xs = ys} e) = Memᴰ.head (ap f e)
-    in_map f xs x (Memᴰ.tail {x = y} {xs = ys} m) = Memᴰ.tail (in_map f ys x m)
+    in_map f xs x = mapped f x xs
 
     pub out_map : (f : A → B) (xs : List A) (y : B) → y ∈ map f xs → (x : A) × (x ∈ xs) × (y ≡ f x)
     out_map f [] y m = absurd (Memᴰ.not-nil m)

@@ -7,13 +7,13 @@ use card::Session;
 use session::Moved;
 
 // "both engines, the step list and the bit-fields" (demand 2)
-#[derive(Drop)]
+#[derive(Clone, Copy)]
 pub enum Engine {
     Fields,
     Steps,
 }
 
-#[derive(Drop)]
+#[derive(Clone, Copy)]
 pub enum Move {
     Load,
     Rest,

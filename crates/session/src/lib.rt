@@ -10,7 +10,7 @@ use card_wiring::Verdict;
 use rule::{Answer, Refusal};
 
 // What an operation that moves a session hands back.
-#[derive(Drop)]
+#[derive(Clone, Copy)]
 pub struct Moved {
     pub answer: Answer,
     pub session: Session,

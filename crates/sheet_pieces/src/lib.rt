@@ -13,7 +13,7 @@ use rule::{Answer, Refusal};
 use sheet_text::Entry;
 
 // How a sheet stands: nothing is written; the card is loaded; all is written.
-#[derive(Drop)]
+#[derive(Clone, Copy)]
 pub enum Stage {
     Fresh,
     Going,
@@ -21,7 +21,7 @@ pub enum Stage {
 }
 
 // A sheet between two pieces: the session and its card's depth, the place of the next record, and the number of vectors so far.
-#[derive(Drop)]
+#[derive(Clone, Copy)]
 pub struct Sheet {
     pub session: Session,
     pub depth: usize,
@@ -31,7 +31,7 @@ pub struct Sheet {
 }
 
 // The sheet after a piece, and the length of the piece's text.
-#[derive(Drop)]
+#[derive(Clone, Copy)]
 pub struct Piece {
     pub sheet: Sheet,
     pub length: usize,

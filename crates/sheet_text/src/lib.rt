@@ -7,7 +7,7 @@ pub use lines::{put_card, put_refused, put_vector};
 use rule::Refusal;
 
 // What stands at a place after the card; a rest and a vector have the place of the next record.
-#[derive(Drop)]
+#[derive(Clone, Copy)]
 pub enum Entry {
     Nothing,
     Bad(Refusal),

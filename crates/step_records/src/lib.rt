@@ -8,14 +8,14 @@ use card::Session;
 use rule::{Answer, Refusal};
 
 // A step as it goes to the lent place.
-#[derive(Drop)]
+#[derive(Clone, Copy)]
 pub struct StepRecord {
     pub net: u16,
     pub time: u8,
 }
 
 // What there is to write, and the answer that goes with it.
-#[derive(Drop)]
+#[derive(Clone, Copy)]
 struct Listing {
     answer: Answer,
     total: usize,

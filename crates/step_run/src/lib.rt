@@ -17,7 +17,7 @@ use rule::Answer;
 use session::Moved;
 
 // What a vector by steps leaves: the words of the nets' histories, and how many steps were done.
-#[derive(Drop)]
+#[derive(Clone, Copy)]
 pub struct Advanced {
     pub words: [u64; 256],
     pub count: usize,

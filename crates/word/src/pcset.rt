@@ -3,7 +3,7 @@ ghost use Rattle.std.specs.Prelude.{◌≡◌, false, ◌||◌, ◌&&◌, ℕ, �
 ghost use Rattle.word.specs.Word.{bit, moved_up};
 ghost use Rattle.word.specs.Times.{count, least, greatest, no_time, zero_in};
 
-#[derive(Drop)]
+#[derive(Clone, Copy)]
 pub struct PcSet {
     pub word: u64,
 }
