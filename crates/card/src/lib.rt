@@ -1,4 +1,6 @@
 // The session, and load: from any bytes at all to a card or a number.
+#![tactic(auto)]
+
 ghost use Rattle.std.specs.Prelude.{◌≡◌, ◌≤◌, eqb, get_or};
 ghost use Rattle.word.specs.Word.{val};
 ghost use Rattle.word.specs.Times.{count};

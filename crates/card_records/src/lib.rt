@@ -1,4 +1,6 @@
 // The records of a card, read from bytes, and the card that they mean, laid out in arrays.
+#![tactic(auto)]
+
 ghost use Rattle.std.specs.Prelude.{◌≡◌, true, ℕ, ◌+◌, ◌*◌, ◌<◌, ◌≤◌, length, get_or};
 ghost use Rattle.card_records.specs.Bytes.{u16_at, kind_fits, type_fits, body_fits, net_record, record_read};
 ghost use Rattle.card_records.specs.Scan.{fault_of, meaning, Stops};

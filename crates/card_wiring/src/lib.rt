@@ -1,4 +1,6 @@
 // The wiring of a card that is laid out in arrays: counts says how many pins each net has, places what they name, 8 places a net.
+#![tactic(auto)]
+
 ghost use Rattle.std.specs.Prelude.{◌≡◌, true, false, map, ◌⊎◌, ℕ, ◌+◌, ◌-◌, ◌*◌, ◌<◌, ◌≤◌, max, eqb, length, get_or};
 ghost use Rattle.lists.specs.Entries.{every};
 ghost use Rattle.lists.specs.Listed.{listed};

@@ -5,6 +5,8 @@
 //     load HEX | rest HEX | vector HEX | steps HEX
 //     history WORDS BEFORES FLAGS | list NETS TIMES | records ROOM | net N | trace N TIME ROOM
 //     bench HEX ORDER K ROOM
+#![tactic(auto)]
+
 mod answers;
 mod lines;
 

@@ -1,4 +1,6 @@
 // The drill program's lines: a line as a command. `command_of` is total: a line that is no command is `Bad`.
+#![tactic(auto)]
+
 mod lines;
 
 pub use lines::command_of;

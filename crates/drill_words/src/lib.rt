@@ -1,5 +1,7 @@
 // The words of a line: a line taken apart into its words, and the numbers, bytes and orders that words spell. A word that spells no number is
 // `Unreadable`.
+#![tactic(auto)]
+
 mod digits;
 mod orders;
 mod parts;

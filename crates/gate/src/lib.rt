@@ -1,4 +1,6 @@
 // What a gate gives of its pins, taken in pin by pin: of one value each, and of one word each, in which bit t is the value at time t.
+#![tactic(auto)]
+
 ghost use Rattle.std.specs.Prelude.{◌≡◌, ℕ, ◌<◌};
 ghost use Rattle.word.specs.Word.{bit, differ, moved_up};
 ghost use Rattle.gate.specs.Inner.Pins.{with_pin};

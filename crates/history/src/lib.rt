@@ -1,4 +1,6 @@
 // What a bench hand asks of a session that ran: the histories with their flags.
+#![tactic(auto)]
+
 ghost use Rattle.std.specs.Prelude.{◌≡◌, false, ℕ, ◌<◌, ◌≤◌, length, get_or};
 ghost use Rattle.lists.specs.Filled.{filled};
 ghost use Rattle.word.specs.Word.{bit, val};

@@ -1,5 +1,7 @@
 // Load, rest, vector and history for a host program, on numbers and byte slices. Between calls the session lives in lent bytes, from which each call makes
 // it again. Every call answers the paper's number and the count: number + 256 * count.
+#![tactic(auto)]
+
 ghost use Rattle.std.specs.Prelude.{◌≡◌, ◌≤◌, length};
 ghost use Rattle.session.specs.Good.{Good};
 ghost use Rattle.operations.specs.declared.Engine.TheVariants.{Fields, Steps};

@@ -1,5 +1,7 @@
 // A session in lent bytes: the card's own bytes and the last two vectors, and what is written there after each operation that was done. specs/Layout.antt draws
 // what stands where. A slice of zeros is the empty session.
+#![tactic(auto)]
+
 ghost use Rattle.std.specs.Prelude.{◌≡◌, ◌≤◌, length, get_or};
 ghost use Rattle.lists.specs.Places.{clear, area};
 ghost use Rattle.host_bytes.specs.Layout.{session_length};

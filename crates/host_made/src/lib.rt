@@ -1,4 +1,6 @@
 // The session that lent bytes hold, made again from the card's own bytes and the last two vectors; or that no call left these bytes.
+#![tactic(auto)]
+
 ghost use Rattle.std.specs.Prelude.{◌≡◌, ◌≤◌, length};
 ghost use Rattle.session.specs.Good.{Good};
 ghost use Rattle.host_bytes.specs.Layout.{longest_card, session_length};

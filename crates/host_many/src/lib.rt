@@ -1,4 +1,6 @@
 // Many vectors one after another: whether bytes are such, the words of their histories, and what is kept after the last of them.
+#![tactic(auto)]
+
 ghost use Rattle.std.specs.Prelude.{◌≡◌, true, ◌+◌, ◌*◌, ◌≤◌, length};
 ghost use Rattle.lists.specs.Entries.{every};
 ghost use Rattle.lists.specs.Places.{area};

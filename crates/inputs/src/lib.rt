@@ -1,4 +1,6 @@
 // The nets that are inputs, what is asked of a vector (one byte an input, 0 or 1), and the start of a pass: what stands in the words ahead of it.
+#![tactic(auto)]
+
 ghost use Rattle.std.specs.Prelude.{◌≡◌, false, ℕ, ◌<◌, ◌≤◌, length, get_or};
 ghost use Rattle.lists.specs.Listed.{listed};
 ghost use Rattle.lists.specs.Entries.{every};

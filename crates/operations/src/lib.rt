@@ -1,4 +1,6 @@
 // The operations that move a session: load, rest, and a vector by either engine.
+#![tactic(auto)]
+
 ghost use Rattle.std.specs.Prelude.{◌≡◌};
 ghost use Rattle.session.specs.Good.{Good};
 ghost use Rattle.operations.specs.Operated.{load_move, vector_by, operated};

@@ -1,4 +1,6 @@
 // A card at rest, and a vector by fields.
+#![tactic(auto)]
+
 ghost use Rattle.std.specs.Prelude.{◌≡◌, true, length};
 ghost use Rattle.inputs.specs.Inputs.{given};
 ghost use Rattle.card.specs.Session.{resting};

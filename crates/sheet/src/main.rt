@@ -1,4 +1,6 @@
 // Reads a session file from standard input and writes its sheet to standard output, a piece a record.
+#![tactic(auto)]
+
 ghost use Rattle.std.specs.Prelude.{◌≡◌, ◌≤◌, length};
 
 use libc::{STDIN_FILENO, STDOUT_FILENO};

@@ -1,4 +1,6 @@
 // The sheet of a session file, piece by piece: the card's line first, then a piece for each record, into a lent page.
+#![tactic(auto)]
+
 ghost use Rattle.std.specs.Prelude.{◌≡◌, ◌<◌, ◌≤◌};
 ghost use Rattle.card.specs.Held.{HasCard};
 ghost use Rattle.session.specs.Moves.{rest_of, vector_of};

@@ -1,4 +1,6 @@
 // The text of a sheet, line by line, into a lent page; and the records of a session file that it is written for.
+#![tactic(auto)]
+
 mod files;
 mod lines;
 

@@ -1,4 +1,6 @@
 // The step list of a card: by level, then net, then time.
+#![tactic(auto)]
+
 ghost use Rattle.std.specs.Prelude.{◌≡◌, [], ◌∷◌, ℕ, ◌+◌, ◌<◌, ◌≤◌, length, get_or};
 ghost use Rattle.lists.specs.Filled.{filled};
 ghost use Rattle.rule.specs.Steps.{Step};

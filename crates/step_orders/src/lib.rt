@@ -1,4 +1,6 @@
 // Orders of the steps: whether one has each step once, and none before one whose value it reads.
+#![tactic(auto)]
+
 ghost use Rattle.std.specs.Prelude.{◌≡◌, true, false, ℕ, ◌<◌, ◌≤◌, length, get_or, replicate};
 ghost use Rattle.lists.specs.Entries.{every};
 ghost use Rattle.card_wiring.specs.Inner.Wires.{Wires, Fitting};

@@ -1,4 +1,6 @@
 // The step list as records of net and time, in a lent slice.
+#![tactic(auto)]
+
 ghost use Rattle.std.specs.Prelude.{◌≡◌, ◌≤◌, replicate};
 ghost use Rattle.session.specs.Good.{Good};
 ghost use Rattle.step_records.specs.Records.{blank_record, records_in, records_of};

@@ -1,4 +1,6 @@
 // Steps one after another, along the list or in any order, and a vector by steps.
+#![tactic(auto)]
+
 ghost use Rattle.std.specs.Prelude.{◌≡◌, true, ℕ, ◌<◌, ◌≤◌, length, get_or};
 ghost use Rattle.rule.specs.Steps.{step_list};
 ghost use Rattle.card_wiring.specs.Inner.Wires.{Wires, Fitting};

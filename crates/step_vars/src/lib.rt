@@ -1,4 +1,6 @@
 // The variables of the steps, kept as words: what a step reads, one step, and the histories that the variables mean.
+#![tactic(auto)]
+
 ghost use Rattle.std.specs.Prelude.{◌≡◌, map, ◌⊎◌, ℕ, ◌+◌, ◌<◌, ◌≤◌, length, get_or};
 ghost use Rattle.gate.specs.Gate.{controls};
 ghost use Rattle.gate.specs.Inner.Pins.{by_pins};

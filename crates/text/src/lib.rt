@@ -1,4 +1,6 @@
 // Text, put byte by byte into a lent page: each function puts a text at a place, and hands back the place after it. And two texts compared.
+#![tactic(auto)]
+
 ghost use Rattle.std.specs.Prelude.{◌≡◌, [], ◌∷◌, ◌+◌, ◌<◌, ◌≤◌, length};
 ghost use Rattle.text.specs.Text.{digit as digitByte, decimal, numbered, named, same_text};
 ghost use Rattle.text.specs.Inner.Put.{Put};

@@ -1,4 +1,6 @@
 // Words of 64 bits: bit t of a word is what holds at time t. A set of times is such a word.
+#![tactic(auto)]
+
 ghost use Rattle.std.specs.Prelude.{◌≡◌, cond, ℕ, ◌<◌, eqb};
 ghost use Rattle.word.specs.Word.{bit, moved_up};
 

@@ -1,0 +1,23 @@
+-- `bench::step_byte` meets its contract: a step that was not done has 2, one that was done the digit of its value. Assumes nothing.
+use mathlib.Core.Path.{sym, ◌∙◌}
+use mathlib.Core.Bool.{true, false}
+use borrow.Author.Rules.{rules}
+use borrow.Author.Tests.{not-true, not-false}
+use Rattle.word.specs.Word.{bit}
+use Rattle.bench.specs.Bench.{not_done}
+use Rattle.bench.proofs.Bytes.{byte_not, byte_done}
+use Rattle.bench.proofs.step_byte.Goals as goal
+
+pub returns-then-not-done : goal.returns-then-not-done
+unfolding not_done
+returns-then-not-done c = let a = c.args in byte_not a.done (bit a.word a.t) (not-true _ c.if-not-done.true-raw)
+
+pub returns-then-has : goal.returns-then-has
+returns-then-has c =
+    let a = c.args in
+    byte_done a.done (bit a.word a.t) true (not-false _ c.if-not-done.false-raw) (sym c.has.ensures ∙ c.if-has.true)
+
+pub returns-else-has : goal.returns-else-has
+returns-else-has c =
+    let a = c.args in
+    byte_done a.done (bit a.word a.t) false (not-false _ c.if-not-done.false-raw) (sym c.has.ensures ∙ c.if-has.false)

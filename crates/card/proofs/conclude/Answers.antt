@@ -1,0 +1,17 @@
+-- `card::conclude` meets its contract: its answer is the wiring's verdict, and a card that passes is laid into the new session. Assumes nothing.
+use mathlib.Core.Path.{◌∙◌}
+use Rattle.card.proofs.Reading.{conclude_faulty, conclude_passed}
+use borrow.Author.Rules.{rules}
+use Rattle.card.proofs.conclude.Goals as goal
+
+pub returns-in-Refused : goal.returns-in-Refused
+returns-in-Refused c =
+    let a = c.args in
+    c.refused.ensures
+    ∙ conclude_faulty a.old a.n a.kinds.now a.types.now a.counts.now a.places.now a.count a.inputs c.wire-w.result c.wire-w.ensures _ c.in-Refused.is
+
+pub returns-in-Passed : goal.returns-in-Passed
+returns-in-Passed c =
+    let a = c.args in
+    conclude_passed a.old a.n a.kinds.now a.types.now a.counts.now a.places.now a.count a.inputs c.wire-w.result c.wire-w.ensures c.in-Passed.is
+    c.input_nets-feeds.result c.input_nets-feeds.ensures

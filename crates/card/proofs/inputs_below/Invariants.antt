@@ -1,0 +1,15 @@
+use mathlib.Core.Path.{◌≡◌, sym}
+use Prim.Native.Nat.{ℕ, ◌-◌, ◌≤◌}
+use native.Mathlib.Omega.{arith}
+use lib.Dec.{eqb}
+use lib.ListN.{get_or}
+use borrow.Author.Rules.{rules}
+use Rattle.word.specs.Times.{count}
+use Rattle.word.proofs.Sets.{count_start, count_le, count_more}
+use Rattle.card.proofs.inputs_below.Given as goal
+
+abbrev pub invariant-loop-g : goal.invariant-loop-g
+invariant-loop-g l = (l.g ≤ l.n) × (l.inputs ≡ count (λ m. eqb (get_or l.kinds m 0) 1) l.g)
+
+abbrev pub decreases-loop-g : goal.decreases-loop-g
+decreases-loop-g l = l.n - l.g

@@ -1,0 +1,18 @@
+use mathlib.Core.Path.{◌≡◌, sym, ap, ◌∙◌}
+use mathlib.Core.List.{map}
+use Prim.Native.Nat.{ℕ, ◌+◌, ◌-◌, ◌*◌, ◌≤◌}
+use native.Mathlib.Omega.{arith}
+use lib.ListN.{get_or}
+use borrow.Author.Rules.{rules}
+use Rattle.lists.specs.Listed.{listed}
+use Rattle.lists.proofs.Listed.{listed_none}
+use Rattle.rule.specs.Net.{at_pin}
+use Rattle.card_wiring.proofs.Pins.{pin_fitting}
+use Rattle.card_wiring.proofs.Sweeps.{most_more, most_read, over_some}
+use Rattle.card_wiring.proofs.over_pins.Given as goal
+
+abbrev pub invariant-loop-j : goal.invariant-loop-j
+invariant-loop-j l = (l.j ≤ l.count) × (l.count ≤ 8) × (l.most ≡ Rattle.rule.specs.Level.most (map (at_pin 0 (λ (m : ℕ). get_or l.old m 0)) (listed (λ (i : ℕ). get_or l.places (l.g * 8 + i) 0) l.j)))
+
+abbrev pub decreases-loop-j : goal.decreases-loop-j
+decreases-loop-j l = l.count - l.j

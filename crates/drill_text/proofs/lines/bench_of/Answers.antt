@@ -1,0 +1,6 @@
+-- The last two words of `bench`: as their numbers were read. Assumes nothing.
+use borrow.Author.Rules.{rules}
+use Rattle.drill_text.proofs.lines.bench_of.Goals as goal
+
+pub returns : goal.returns
+returns c = rw (c.in-Spelled.is, c.in-Spelled-room.is)

@@ -1,0 +1,6 @@
+-- `list NETS TIMES`: as its numbers were read. Assumes nothing.
+use borrow.Author.Rules.{rules}
+use Rattle.drill_text.proofs.lines.list_of.Goals as goal
+
+pub returns : goal.returns
+returns c = rw (c.in-Spelled.is, c.in-Spelled-times.is)

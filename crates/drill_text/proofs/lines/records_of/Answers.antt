@@ -1,0 +1,6 @@
+-- `records ROOM`: as its number was read. Assumes nothing.
+use borrow.Author.Rules.{rules}
+use Rattle.drill_text.proofs.lines.records_of.Goals as goal
+
+pub returns-in-Spelled : goal.returns-in-Spelled
+returns-in-Spelled c = rw c.in-Spelled.is

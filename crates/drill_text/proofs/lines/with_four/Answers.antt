@@ -1,0 +1,24 @@
+-- A line of five words: `with_four`, at the tests that led there. Assumes nothing.
+use mathlib.Core.Path.{sym, ap₂, ◌∙◌}
+use borrow.Author.Tests.{not-true, not-false}
+use Rattle.drill_text.specs.Lines.{as_bench, with_four}
+use borrow.Author.Rules.{rules}
+use Rattle.drill_text.proofs.lines.with_four.Goals as goal
+
+pub returns-then-not-same : goal.returns-then-not-same
+unfolding with_four
+returns-then-not-same c = rw (sym c.same.ensures ∙ not-true _ c.if-not-same.true-raw)
+
+pub returns-then-not-is_hex : goal.returns-then-not-is_hex
+unfolding with_four
+returns-then-not-is_hex c = rw (sym c.same.ensures ∙ not-false _ c.if-not-same.false-raw, sym c.is_hex.ensures ∙ not-true _ c.if-not-is_hex.true-raw)
+
+pub returns-then-not-is_order : goal.returns-then-not-is_order
+unfolding with_four
+returns-then-not-is_order c = rw (sym c.same.ensures ∙ not-false _ c.if-not-same.false-raw, sym c.is_hex.ensures ∙ not-false _ c.if-not-is_hex.false-raw, sym c.is_order.ensures ∙ not-true _ c.if-not-is_order.true-raw)
+
+pub returns : goal.returns
+unfolding with_four
+returns c =
+    c.bench_of.ensures ∙ ap₂ as_bench c.number_of.ensures c.room_of.ensures
+    ∙ rw (sym c.same.ensures ∙ not-false _ c.if-not-same.false-raw, sym c.is_hex.ensures ∙ not-false _ c.if-not-is_hex.false-raw, sym c.is_order.ensures ∙ not-false _ c.if-not-is_order.false-raw)

@@ -1,0 +1,62 @@
+-- A line of two words: `with_one`, at the names that it was compared with. Assumes nothing.
+use mathlib.Core.Path.{◌≡◌, sym, ap, ◌∙◌}
+use mathlib.Core.Bool.{false}
+use Rattle.text.specs.Text.{same_text}
+use Rattle.drill_text.specs.Lines.{load, rest, vector, steps, records, net, as_records, as_net, with_one}
+use borrow.Author.Rules.{rules}
+use Rattle.drill_text.proofs.lines.with_one.Goals as goal
+
+-- the names that it was not
+no-load : (c : goal.Else-same) → same_text c.args.name.now load ≡ false
+no-load c = sym c.same.ensures ∙ c.if-same.false
+
+no-rest : (c : goal.Else-same-2) → same_text c.args.name.now rest ≡ false
+no-rest c = sym c.same-2.ensures ∙ c.if-same-2.false
+
+no-vector : (c : goal.Else-same-3) → same_text c.args.name.now vector ≡ false
+no-vector c = sym c.same-3.ensures ∙ c.if-same-3.false
+
+no_steps : (c : goal.Else-same-4) → same_text c.args.name.now steps ≡ false
+no_steps c = sym c.same-4.ensures ∙ c.if-same-4.false
+
+no-records : (c : goal.Else-same-5) → same_text c.args.name.now records ≡ false
+no-records c = sym c.same-5.ensures ∙ c.if-same-5.false
+
+no-net : (c : goal.Else-same-6) → same_text c.args.name.now net ≡ false
+no-net c = sym c.same-6.ensures ∙ c.if-same-6.false
+
+pub returns-then-same : goal.returns-then-same
+unfolding with_one
+returns-then-same c = c.if_hex.ensures ∙ rw (sym c.same.ensures ∙ c.if-same.true)
+
+pub returns-then-same-2 : goal.returns-then-same-2
+unfolding with_one
+returns-then-same-2 c = c.if_hex-then-same-2.ensures ∙ rw (no-load c.before.before.before.before, sym c.same-2.ensures ∙ c.if-same-2.true)
+
+pub returns-then-same-3 : goal.returns-then-same-3
+unfolding with_one
+returns-then-same-3 c =
+    c.if_hex-then-same-3.ensures ∙ rw (no-load c.before.before.before.before.before.before.before, no-rest c.before.before.before.before, sym c.same-3.ensures ∙ c.if-same-3.true)
+
+pub returns-then-same-4 : goal.returns-then-same-4
+unfolding with_one
+returns-then-same-4 c =
+    c.if_hex-then-same-4.ensures ∙ rw (no-load c.before.before.before.before.before.before.before.before.before.before, no-rest c.before.before.before.before.before.before.before, no-vector c.before.before.before.before, sym c.same-4.ensures ∙ c.if-same-4.true)
+
+pub returns-then-same-5 : goal.returns-then-same-5
+unfolding with_one
+returns-then-same-5 c =
+    c.records_of.ensures ∙ ap as_records c.room_of.ensures
+    ∙ rw (no-load c.before.before.before.before.before.before.before.before.before.before.before.before.before.before, no-rest c.before.before.before.before.before.before.before.before.before.before.before, no-vector c.before.before.before.before.before.before.before.before, no_steps c.before.before.before.before.before, sym c.same-5.ensures ∙ c.if-same-5.true)
+
+pub returns-then-same-6 : goal.returns-then-same-6
+unfolding with_one
+returns-then-same-6 c =
+    let is-net = sym c.same-6.ensures ∙ c.if-same-6.true in
+    c.net_of.ensures ∙ ap as_net c.number_of.ensures
+    ∙ rw (no-load c.before.before.before.before.before.before.before.before.before.before.before.before.before.before.before.before.before, no-rest c.before.before.before.before.before.before.before.before.before.before.before.before.before.before, no-vector c.before.before.before.before.before.before.before.before.before.before.before, no_steps c.before.before.before.before.before.before.before.before, no-records c.before.before.before.before.before, is-net)
+
+pub returns : goal.returns
+unfolding with_one
+returns c =
+    rw (no-load c.before.before.before.before.before.before.before.before.before.before.before.before.before.before.before, no-rest c.before.before.before.before.before.before.before.before.before.before.before.before, no-vector c.before.before.before.before.before.before.before.before.before, no_steps c.before.before.before.before.before.before, no-records c.before.before.before, no-net c)

@@ -1,0 +1,14 @@
+use mathlib.Core.Path.{◌≡◌, refl, sym, ◌∙◌}
+use Prim.Native.Nat.{◌-◌, ◌≤◌}
+use native.Mathlib.Omega.{arith}
+use lib.ListN.{length, drop}
+use Rattle.drill_words.specs.Digits.{all_digits}
+use Rattle.drill_words.proofs.Spelling.{digits_stop, digits_on, digits_end}
+use borrow.Author.Rules.{rules}
+use Rattle.drill_words.proofs.digits.all_digits.Given as goal
+
+abbrev pub invariant-loop-i : goal.invariant-loop-i
+invariant-loop-i l = (l.i ≤ length l.word) × (all_digits (drop l.i l.word) ≡ all_digits l.word)
+
+abbrev pub decreases-loop-i : goal.decreases-loop-i
+decreases-loop-i l = length l.word - l.i

@@ -1,0 +1,16 @@
+use mathlib.Core.Path.{sym, ◌∙◌}
+use Prim.Native.Nat.{◌+◌, ◌-◌, ◌≤◌}
+use native.Mathlib.Omega.{arith}
+use lib.ListN.{length}
+use Rattle.drill_words.specs.Inner.Parts.{parts_from}
+use Rattle.drill_words.specs.Orders.{entries, order_spelled}
+use Rattle.drill_words.proofs.Filling.{Filling}
+use Rattle.drill_words.proofs.Ordering.{dash_none, entries_start, entries_more, entries_end}
+use borrow.Author.Rules.{rules}
+use Rattle.drill_words.proofs.orders.order_into.Given as goal
+
+abbrev pub invariant-loop-from : goal.invariant-loop-from
+invariant-loop-from l = (l.n ≤ l.from) × (l.from ≤ length l.word + 1) × Filling (order_spelled l.word) l.initial.out l.out l.n (entries (parts_from 44 l.word l.from))
+
+abbrev pub decreases-loop-from : goal.decreases-loop-from
+decreases-loop-from l = length l.word + 1 - l.from

@@ -1,0 +1,17 @@
+use mathlib.Core.Path.{◌≡◌, ap, ◌∙◌}
+use Prim.Native.Nat.{ℕ, ◌+◌, ◌-◌, ◌*◌, ◌≤◌}
+use native.Mathlib.Omega.{arith}
+use lib.ListN.{get_or}
+use borrow.Author.Rules.{rules}
+use Rattle.word.specs.Word.{bit}
+use Rattle.rule.specs.Net.{at_pin}
+use Rattle.card_wiring.proofs.Pins.{pin_fitting, first_fitting}
+use Rattle.card_wiring.proofs.Gathered.{first_pins, gather_first, gather_more, gather_all}
+use Rattle.fields.proofs.Fields.{pin_bit}
+use Rattle.fields.proofs.gather.Given as goal
+
+abbrev pub invariant-loop-j : goal.invariant-loop-j
+invariant-loop-j l = (l.j ≤ l.count) × (l.count ≤ 8) × ((t : ℕ) → bit l.known t ≡ first_pins (pin_bit l.words t) l.places l.g l.ty l.j)
+
+abbrev pub decreases-loop-j : goal.decreases-loop-j
+decreases-loop-j l = 8 - l.j

@@ -1,0 +1,49 @@
+-- `history::history` meets its contract: its tests are the refusals in their order, and then each slice is filled by its own function.
+-- Assumes nothing.
+use mathlib.Core.Path.{◌≡◌, sym}
+use mathlib.Core.Bool.{true}
+use mathlib.Core.Logic.{inl, inr}
+use Prim.Native.Nat.{◌≤◌}
+use native.Mathlib.Omega.{arith}
+use borrow.Author.Tests.{not-true, not-false}
+use borrow.Author.Rules.{rules}
+use Rattle.card.proofs.Kept.{few}
+use Rattle.history.proofs.Ran.{holds}
+use Rattle.history.proofs.Histories.{gives_12, gives_18, told}
+use Rattle.history.proofs.history.Goals as goal
+
+-- there the session is rested, and has no more nets than the arrays have places
+ready : (c : goal.Else-flags-n) → c.args.t1.rested ≡ true
+ready c = not-false _ c.if-not-s.false-raw
+
+narrow : (c : goal.Else-flags-n) → c.args.t1.nets ≤ 256
+narrow c = few c.args.t1 (holds c.args.t1 c.requires (ready c))
+
+pub returns-then-not-s : goal.returns-then-not-s
+returns-then-not-s c = let a = c.args in sym (gives_12 a.t1 a.words.now a.befores.now a.flags.now (not-true _ c.if-not-s.true-raw))
+
+pub returns-then-words-n : goal.returns-then-words-n
+returns-then-words-n c = let a = c.args in sym (gives_18 a.t1 a.words.now a.befores.now a.flags.now (not-false _ c.if-not-s.false-raw) (inl c.if-words-n.true))
+
+pub returns-then-befores-n : goal.returns-then-befores-n
+returns-then-befores-n c = let a = c.args in sym (gives_18 a.t1 a.words.now a.befores.now a.flags.now (not-false _ c.if-not-s.false-raw) (inr (inl c.if-befores-n.true)))
+
+pub returns-then-flags-n : goal.returns-then-flags-n
+returns-then-flags-n c = let a = c.args in sym (gives_18 a.t1 a.words.now a.befores.now a.flags.now (not-false _ c.if-not-s.false-raw) (inr (inr c.if-flags-n.true)))
+
+pub put_words-requires : goal.put_words-requires
+put_words-requires c = (omega (arith, narrow c.before.before.before), omega (arith, c.if-words-n.false))
+
+pub put_befores-requires : goal.put_befores-requires
+put_befores-requires c = (omega (arith, narrow c.before.before.before.before.before.before.before.before.before), omega (arith, c.if-befores-n.left))
+
+pub put_flags-requires : goal.put_flags-requires
+put_flags-requires c =
+    (omega (arith, narrow c.before.before.before.before.before.before.before.before.before.before.before.before.before.before.before.before), omega (arith, c.if-flags-n.left))
+
+pub returns : goal.returns
+returns c =
+    let a = c.args in
+    told a.t1 a.words.now a.befores.now a.flags.now (ready c.before.before.before.before.before.before.before.before.before.before.before.before.before.before.before.before.before.before.before)
+    (record { for_words = c.if-words-n.left; for_befores = c.if-befores-n.left; for_flags = c.if-flags-n.left }) _ _ _
+    c.put_words.ensures c.put_befores.ensures c.put_flags.ensures

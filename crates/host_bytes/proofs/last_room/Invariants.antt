@@ -1,0 +1,17 @@
+use mathlib.Core.Path.{◌≡◌, refl}
+use mathlib.Core.List.{List}
+use Prim.Native.Nat.{ℕ, ◌+◌, ◌-◌, ◌≤◌}
+use native.Mathlib.Omega.{arith}
+use lib.ListN.{get_or}
+use Rattle.lists.specs.Listed.{listed, upto}
+use Rattle.lists.proofs.Fills.{fill_none, fill_more, fill_all}
+use borrow.Author.Rules.{rules}
+use Rattle.host_bytes.specs.Layout.{last_at}
+use Rattle.host_bytes.specs.Kept.{last_room}
+use Rattle.host_bytes.proofs.last_room.Given as goal
+
+abbrev pub invariant-loop-i : goal.invariant-loop-i
+invariant-loop-i l = (l.i ≤ 256) × (l.out ≡ listed (upto (byte_in l.b) (λ (k : ℕ). 0) l.i) 256)
+
+abbrev pub decreases-loop-i : goal.decreases-loop-i
+decreases-loop-i l = 256 - l.i

@@ -1,0 +1,39 @@
+-- `host_made::made_moved` meets its contract. Assumes nothing.
+use mathlib.Core.Path.{◌≡◌, sym, ap, subst, ◌∙◌}
+use mathlib.Core.Bool.{true}
+use borrow.Author.Tests.{not-true, not-false}
+use Rattle.lists.specs.Places.{part}
+use Rattle.lists.proofs.Places.{part_of}
+use Rattle.session.specs.Good.{Good}
+use Rattle.session.specs.Moves.{rest_of}
+use Rattle.session.proofs.Kept.{rest_good}
+use Rattle.host_bytes.specs.Layout.{older_at}
+use Rattle.host_made.specs.Made.{made_by, fitting}
+use Rattle.host_made.proofs.Making.{moved_not, moved_refused, moved_is}
+use borrow.Author.Rules.{rules}
+use Rattle.host_made.proofs.made_moved.Goals as goal
+
+-- the rooms fit, and it is the older vector that it is rested by
+fits : (c : goal.After-rest-rested) → (let a = c.args in fitting a.b.now a.s.inputs a.s.inputs ≡ true)
+fits c = sym c.rooms_fit.ensures ∙ not-false _ c.if-not-rooms_fit.false-raw
+
+rested : (c : goal.After-rest-rested) → (let a = c.args in c.rest-rested.result ≡ rest_of a.s (part a.b.now older_at a.s.inputs))
+rested c = rw part_of at c.rest-rested.ensures
+
+pub returns-then-not-rooms_fit : goal.returns-then-not-rooms_fit
+returns-then-not-rooms_fit c = let a = c.args in c.broken_session.ensures ∙ moved_not a.b.now a.s a.engine (sym c.rooms_fit.ensures ∙ not-true _ c.if-not-rooms_fit.true-raw)
+
+pub vector_by-requires : goal.vector_by-requires
+vector_by-requires c =
+    subst (λ x. Good x.session) (sym c.rest-rested.ensures) (rest_good c.args.s c.requires.good.0 _)
+
+pub returns-in-Refused : goal.returns-in-Refused
+returns-in-Refused c =
+    let a = c.args in
+    c.broken_session-in-Refused.ensures ∙ moved_refused a.b.now a.s a.engine (fits c.before.before.before.before) c.rest-rested.result (rested c.before.before.before.before) _ c.in-Refused.is
+
+pub returns-in-Done : goal.returns-in-Done
+returns-in-Done c =
+    let a = c.args in
+    c.made_by.ensures ∙ ap made_by (rw part_of at c.vector_by.ensures)
+    ∙ moved_is a.b.now a.s a.engine (fits c.before.before.before.before.before.before) c.rest-rested.result (rested c.before.before.before.before.before.before) _ c.in-Done.is

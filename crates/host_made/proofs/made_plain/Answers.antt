@@ -1,0 +1,12 @@
+-- `host_made::made_plain` meets its contract. Assumes nothing.
+use mathlib.Core.Path.{sym, ◌∙◌}
+use borrow.Author.Tests.{not-true, not-false}
+use Rattle.host_made.proofs.Making.{plain_not, plain_is}
+use borrow.Author.Rules.{rules}
+use Rattle.host_made.proofs.made_plain.Goals as goal
+
+pub returns-then-not-rooms_fit : goal.returns-then-not-rooms_fit
+returns-then-not-rooms_fit c = let a = c.args in c.broken_session.ensures ∙ plain_not a.b.now a.s (sym c.rooms_fit.ensures ∙ not-true _ c.if-not-rooms_fit.true-raw)
+
+pub returns : goal.returns
+returns c = let a = c.args in plain_is a.b.now a.s (sym c.rooms_fit.ensures ∙ not-false _ c.if-not-rooms_fit.false-raw)

@@ -1,0 +1,17 @@
+-- `host_made::made_rested` meets its contract. Assumes nothing.
+use mathlib.Core.Path.{sym, ap, ◌∙◌}
+use borrow.Author.Tests.{not-true, not-false}
+use Rattle.lists.proofs.Places.{part_of}
+use Rattle.host_made.specs.Made.{made_by}
+use Rattle.host_made.proofs.Making.{rested_not, rested_is}
+use borrow.Author.Rules.{rules}
+use Rattle.host_made.proofs.made_rested.Goals as goal
+
+pub returns-then-not-rooms_fit : goal.returns-then-not-rooms_fit
+returns-then-not-rooms_fit c = let a = c.args in c.broken_session.ensures ∙ rested_not a.b.now a.s (sym c.rooms_fit.ensures ∙ not-true _ c.if-not-rooms_fit.true-raw)
+
+pub returns : goal.returns
+returns c =
+    let a = c.args in
+    let r = rw part_of at c.rest.ensures in
+    c.made_by.ensures ∙ ap made_by r ∙ rested_is a.b.now a.s (sym c.rooms_fit.ensures ∙ not-false _ c.if-not-rooms_fit.false-raw)

@@ -1,0 +1,50 @@
+-- `inputs::input_nets` meets its contract. The loop's invariant: j inputs stand ahead of net n, and they are in their places. The measure is what is left of 256.
+-- Assumes nothing.
+use mathlib.Core.Path.{◌≡◌, sym, ap, ◌∙◌}
+use mathlib.Core.Logic.{⊎_elim}
+use Prim.Native.Nat.{ℕ, ◌+◌, ◌-◌, ◌≤◌, ◌<◌}
+use native.Mathlib.Omega.{arith}
+use borrow.Author.Rules.{rules}
+use Rattle.inputs.specs.Inputs.{rank, input_nets}
+use Rattle.inputs.proofs.Vectors.{rank_none, rank_input, rank_other, rank_le}
+use Rattle.inputs.proofs.Nets.{nets_none, nets_input, nets_other}
+use Rattle.inputs.proofs.input_nets.Goals as goal
+
+-- there are not more inputs ahead of a net than nets
+place-there : (c : goal.Then-kinds-n-eq1) → c.loop-n.j < 256
+place-there c =
+    let l = c.loop-n in
+    omega (arith, l.invariant.1, c.loop-n-test.true, rank_le c.args.kinds.now l.n)
+
+pub loop-n-init : goal.loop-n-init
+loop-n-init c = (omega arith, sym (rank_none _), nets_none _)
+
+pub offset_bounds-nets-j : goal.offset_bounds-nets-j
+offset_bounds-nets-j c = let b = place-there c in omega arith
+
+pub bounds-nets-j : goal.bounds-nets-j
+bounds-nets-j c = place-there c
+
+pub overflow_add-j : goal.overflow_add-j
+overflow_add-j c = let b = place-there c in omega arith
+
+pub loop-n-preserved : goal.loop-n-preserved
+loop-n-preserved c =
+    let a = c.args in
+    let l = c.loop-n in (
+      omega arith,
+      ⊎_elim
+          (λ w. w.2 ∙ ap (λ (k : ℕ). k + 1) l.invariant.1 ∙ rank_input a.kinds.now l.n w.0.taken)
+          (λ w. w.2 ∙ l.invariant.1 ∙ rank_other a.kinds.now l.n w.0.left)
+          c.if-kinds-n-eq1.branch,
+      ⊎_elim
+          (λ w. w.1 ∙ nets_input a.kinds.now l.n l.j l.nets w.0.taken l.invariant.1 l.invariant.2)
+          (λ w. w.1 ∙ nets_other a.kinds.now l.n l.nets w.0.left l.invariant.2)
+          c.if-kinds-n-eq1.branch,
+    )
+
+pub returns : goal.returns
+returns c =
+    let l = c.loop-n in
+    let e : l.n ≡ 256 = omega (arith, l.invariant.0, c.loop-n-test.false) in
+    l.invariant.2 ∙ ap (input_nets _) e

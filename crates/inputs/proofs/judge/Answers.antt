@@ -1,0 +1,29 @@
+-- `inputs::judge` meets its contract: its tests are the refusals in their order. Assumes nothing.
+use mathlib.Core.Path.{◌≡◌, sym, ◌∙◌}
+use mathlib.Core.Bool.{true}
+use borrow.Author.Rules.{rules}
+use borrow.Author.Tests.{not-true, not-false}
+use Rattle.inputs.proofs.Verdicts.{not_ready, bad_length, bad_byte, all_pass}
+use Rattle.inputs.proofs.judge.Goals as goal
+
+-- past the first test all is ready, past the second the length fits
+ready : (c : goal.Else-not-ready) → c.args.ready ≡ true
+ready c = not-false _ c.if-not-ready.false-raw
+
+pub returns-then-not-ready : goal.returns-then-not-ready
+returns-then-not-ready c = let a = c.args in not_ready a.ready a.inputs a.v.now (not-true _ c.if-not-ready.true-raw)
+
+pub returns-then-v-inputs : goal.returns-then-v-inputs
+returns-then-v-inputs c =
+    let a = c.args in
+    bad_length a.ready a.inputs a.v.now (ready c.before) c.if-v-inputs.true
+
+pub returns-then-not-bytes_fit : goal.returns-then-not-bytes_fit
+returns-then-not-bytes_fit c =
+    let a = c.args in
+    bad_byte a.ready a.inputs a.v.now (ready c.before.before.before) c.if-v-inputs.false (sym c.bytes_fit.ensures ∙ not-true _ c.if-not-bytes_fit.true-raw)
+
+pub returns : goal.returns
+returns c =
+    let a = c.args in
+    all_pass a.ready a.inputs a.v.now (ready c.before.before.before) c.if-v-inputs.false (sym c.bytes_fit.ensures ∙ not-false _ c.if-not-bytes_fit.false-raw)

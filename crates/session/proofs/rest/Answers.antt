@@ -1,0 +1,21 @@
+-- `session::rest` meets its contract: the vector's verdict decides, and one that fits settles the session. Assumes nothing.
+use mathlib.Core.Path.{sym, ◌∙◌}
+use borrow.Author.Rules.{rules}
+use Rattle.inputs.proofs.Verdicts.{judged_vector}
+use Rattle.session.proofs.Answers.{rest_refused_by, rest_done}
+use Rattle.session.proofs.rest.Goals as goal
+
+pub settle-next-requires : goal.settle-next-requires
+settle-next-requires c =
+    let fits = judged_vector c.args.s.loaded c.args.s.inputs c.args.v.now (sym c.judge-verdict.ensures ∙ c.in-Passed.is) in
+    (c.requires, (fits.0, fits.1.size))
+
+pub returns-in-Refused : goal.returns-in-Refused
+returns-in-Refused c =
+    let a = c.args in
+    c.refused.ensures ∙ rest_refused_by a.s a.v.now _ c.judge-verdict.ensures _ c.in-Refused.is
+
+pub returns-in-Passed : goal.returns-in-Passed
+returns-in-Passed c =
+    let a = c.args in
+    rest_done a.s a.v.now _ c.judge-verdict.ensures _ c.settle-next.ensures c.in-Passed.is

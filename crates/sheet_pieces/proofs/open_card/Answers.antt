@@ -1,0 +1,47 @@
+-- `sheet_pieces::open_card` meets its contract: the tests, and then what load answers. Assumes nothing.
+use mathlib.Core.Path.{◌≡◌, sym, ◌∙◌}
+use native.Mathlib.Omega.{arith}
+use lib.Seq.{length-take-le}
+use Rattle.card.proofs.Verdicts.{load_holds}
+use Rattle.sheet_pieces.specs.Pieces.{loaded_piece, card_piece}
+use Rattle.sheet_pieces.proofs.Steps.{hand_on, refused_so, done_so, card_long, card_loads, bytes_front}
+use borrow.Author.Rules.{rules}
+use Rattle.sheet_pieces.proofs.open_card.Goals as goal
+
+-- there the piece is what load's answer makes it
+loads : (l : goal.After-load-loaded)
+    → loaded_piece l.args.sheet l.card_end-at.result l.load-loaded.result
+    ≡ card_piece l.args.sheet l.args.file.now
+loads l =
+    let a = l.args in
+    card_loads a.sheet a.file.now l.empty.result l.card_end-at.result l.load-loaded.result
+    l.if-file-gt65536.false l.empty.ensures
+    l.card_end-at.ensures.0 l.load-loaded.ensures
+
+pub returns-then-file-gt65536 : goal.returns-then-file-gt65536
+returns-then-file-gt65536 c =
+    let a = c.args in
+    hand_on a.out.now (card_long a.sheet a.file.now c.if-file-gt65536.true) c.refused.ensures
+
+pub slice_bounds-load-end : goal.slice_bounds-load-end
+slice_bounds-load-end c =
+    sym
+    (length-take-le c.card_end-at.result c.args.file.now
+    c.card_end-at.ensures.1)
+
+pub taken-requires : goal.taken-requires
+taken-requires c =
+    let front = bytes_front c.card_end-at.result c.args.file.now
+    (λ i. omega (arith, c.shared_slice_known-1.given i)) in
+    load_holds c.empty.result _ front c.load-loaded.result c.load-loaded.ensures _ c.in-Done.is
+
+pub returns-in-Refused : goal.returns-in-Refused
+returns-in-Refused c =
+    let a = c.args in
+    hand_on a.out.now (refused_so c.load-loaded.result.answer a.sheet _ _ c.in-Refused.is ∙ loads c.before.before.before.before.before.before)
+    c.refused-in-Refused.ensures
+
+pub returns-in-Done : goal.returns-in-Done
+returns-in-Done c =
+    let a = c.args in
+    hand_on a.out.now (done_so c.load-loaded.result.answer a.sheet _ _ c.in-Done.is ∙ loads c.before.before.before.before.before) c.taken.ensures

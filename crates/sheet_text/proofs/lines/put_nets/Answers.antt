@@ -1,0 +1,44 @@
+-- `sheet_text::lines::put_nets` meets its contract. The loop's invariant: the lines of the nets below i are put, with at most 77 bytes each. Assumes nothing.
+use mathlib.Core.Path.{◌≡◌, ap}
+use mathlib.Core.List.{List}
+use Prim.Native.Nat.{ℕ, ◌+◌, ◌-◌, ◌*◌, ◌≤◌}
+use native.Mathlib.Omega.{arith}
+use borrow.Author.Rules.{rules}
+use lib.ListN.{get_or}
+use Rattle.lists.specs.Entries.{each, from}
+use Rattle.text.specs.Inner.Put.{Put}
+use Rattle.text.proofs.Texts.{put_none, put_same}
+use Rattle.sheet_text.specs.Lines.{net_line}
+use Rattle.sheet_text.proofs.Lengths.{lines_more}
+use Rattle.sheet_text.proofs.lines.put_nets.Goals as goal
+
+-- a net's line, from the arrays
+abbrev line_in : ℕ → List ℕ → List ℕ → List ℕ → ℕ → List ℕ
+line_in depth words befores flags i = net_line depth i (get_or befores i 0) (get_or words i 0) (get_or flags i 0)
+
+pub loop-i-init : goal.loop-i-init
+loop-i-init c = (omega arith, put_none _ _, omega arith)
+
+pub put_net-end-requires : goal.put_net-end-requires
+put_net-end-requires c = (
+  c.requires.0,
+  omega (arith, c.requires.1),
+  omega
+      (arith, c.requires.2, c.loop-i.invariant.2),
+)
+
+pub loop-i-preserved : goal.loop-i-preserved
+loop-i-preserved c =
+    let a = c.args in
+    let l = c.loop-i in (
+      omega arith,
+      lines_more (line_in a.depth a.words.now a.befores.now a.flags.now) l.i l.invariant.1 c.put_net-end.ensures.0,
+      omega
+          (arith, l.invariant.2, c.put_net-end.ensures.1),
+    )
+
+pub returns : goal.returns
+returns c =
+    let a = c.args in
+    let e : c.loop-i.i ≡ a.n = omega arith in
+    put_same (ap (λ k. each (line_in a.depth a.words.now a.befores.now a.flags.now) (from 0 k)) e) c.loop-i.invariant.1

@@ -1,0 +1,18 @@
+use mathlib.Core.Path.{◌≡◌, ap}
+use mathlib.Core.List.{List}
+use Prim.Native.Nat.{ℕ, ◌+◌, ◌-◌, ◌*◌, ◌≤◌}
+use native.Mathlib.Omega.{arith}
+use borrow.Author.Rules.{rules}
+use lib.ListN.{get_or}
+use Rattle.lists.specs.Entries.{each, from}
+use Rattle.text.specs.Inner.Put.{Put}
+use Rattle.text.proofs.Texts.{put_none, put_same}
+use Rattle.sheet_text.specs.Lines.{net_line}
+use Rattle.sheet_text.proofs.Lengths.{lines_more}
+use Rattle.sheet_text.proofs.lines.put_nets.Given as goal
+
+abbrev pub invariant-loop-i : goal.invariant-loop-i
+invariant-loop-i l = (l.i ≤ l.n) × Put (each (line_in l.depth l.words l.befores l.flags) (from 0 l.i)) l.initial.out l.at l.out l.end × (l.end ≤ l.at + 77 * l.i)
+
+abbrev pub decreases-loop-i : goal.decreases-loop-i
+decreases-loop-i l = l.n - l.i

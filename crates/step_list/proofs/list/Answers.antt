@@ -1,0 +1,55 @@
+-- `step_list::list` meets its contract. Assumes nothing.
+use mathlib.Core.Path.{◌≡◌}
+use mathlib.Core.Bool.{true}
+use Prim.Native.Nat.{◌≤◌}
+use lib.ListN.{length}
+use borrow.Author.Tests.{not-true, not-false}
+use Rattle.rule.specs.Steps.{step_list}
+use Rattle.card.specs.Session.{card_of}
+use Rattle.card.specs.Held.{HasCard}
+use Rattle.step_list.proofs.Cards.{list_asked, list_held, list_total, list_few}
+use Rattle.step_list.proofs.Answers.{list_none, list_short_nets, list_short_times, list_full}
+use borrow.Author.Rules.{rules}
+use Rattle.step_list.proofs.list.Goals as goal
+
+loaded : (c : goal.Else-not-s) → c.args.t1.loaded ≡ true
+loaded c = not-false _ c.if-not-s.false-raw
+
+card : (c : goal.Else-not-s) → HasCard c.args.t1
+card c = c.requires.card (loaded c)
+
+-- the list that is put has as many entries as the card has steps
+size : (c : goal.After-put_list-total) → c.put_list-total.result ≡ length (step_list (card_of c.args.t1))
+size c = list_total c.args.t1 (card c.before.before.before.before.before.before) c.put_list-total.ensures
+
+few : (c : goal.After-put_list-total) → c.put_list-total.result ≤ 4096
+few c = list_few c.args.t1 (card c.before.before.before.before.before.before) c.put_list-total.ensures
+
+pub returns-then-not-s : goal.returns-then-not-s
+returns-then-not-s c = let a = c.args in list_none a.t1 a.nets.now a.times.now (not-true _ c.if-not-s.true-raw)
+
+pub put_list-total-requires : goal.put_list-total-requires
+put_list-total-requires c =
+    (list_asked c.args.t1 (card c.before.before.before.before.before), search rules)
+
+pub returns-then-nets-total : goal.returns-then-nets-total
+returns-then-nets-total c =
+    let a = c.args in
+    list_short_nets a.t1 a.nets.now a.times.now (loaded c.before.before.before.before.before.before.before) c.put_list-total.result (size c.before) c.if-nets-total.true
+
+pub returns-then-times-total : goal.returns-then-times-total
+returns-then-times-total c =
+    let a = c.args in
+    list_short_times a.t1 a.nets.now a.times.now (loaded c.before.before.before.before.before.before.before.before) c.put_list-total.result (size c.before.before) c.if-nets-total.false c.if-times-total.true
+
+pub copy_nets-requires : goal.copy_nets-requires
+copy_nets-requires c = (few c.before.before.before.before, c.if-nets-total.false)
+
+pub copy_times-requires : goal.copy_times-requires
+copy_times-requires c = (few c.before.before.before.before.before.before.before.before.before, c.if-times-total.left)
+
+pub returns : goal.returns
+returns c =
+    let a = c.args in
+    list_full a.t1 a.nets.now a.times.now (loaded c.before.before.before.before.before.before.before.before.before.before.before.before.before.before.before.before.before.before) c.put_list-total.result (list_held a.t1 (card c.before.before.before.before.before.before.before.before.before.before.before.before.before.before.before.before.before.before) c.put_list-total.ensures)
+    (search rules) (search rules) (few c.before.before.before.before.before.before.before.before.before.before.before.before) c.if-nets-total.left c.if-times-total.left _ _ c.copy_nets.ensures c.copy_times.ensures

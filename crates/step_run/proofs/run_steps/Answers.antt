@@ -1,0 +1,39 @@
+-- `step_run::run_steps` meets its contract: it goes along the card's list. Assumes nothing.
+use mathlib.Core.Path.{ap, ◌∙◌}
+use Rattle.rule.specs.Steps.{step_list}
+use Rattle.inputs.specs.Inputs.{given}
+use Rattle.card.specs.Session.{card_of}
+use Rattle.card.specs.Held.{HasCard}
+use Rattle.card.proofs.Kept.{card_wires, card_fitting}
+use Rattle.session.proofs.Held.{feeds_fit}
+use Rattle.session.proofs.Moving.{tops_ends}
+use Rattle.step_list.proofs.Cards.{list_asked}
+use Rattle.step_run.specs.Inner.Runs.{stepped}
+use Rattle.step_run.proofs.Runs.{ListReady, list_ready}
+use Rattle.step_run.proofs.Vectors.{stepped_run, run_made}
+use borrow.Author.Rules.{rules}
+use Rattle.step_run.proofs.run_steps.Goals as goal
+
+card : (c : goal.Start) → HasCard c.args.t1
+card c = c.requires.good.card (c.requires.good.rest c.requires.rested_value.0).0
+
+-- the list that is put is the card's
+ready : (c : goal.After-put_list-total) → ListReady c.args.t1 c.put_list-total.new.0 c.put_list-total.new.1.0 c.put_list-total.result
+ready c = list_ready c.args.t1 (card c) c.put_list-total.ensures (search rules) (search rules)
+
+pub put_list-total-requires : goal.put_list-total-requires
+put_list-total-requires c = (list_asked c.args.t1 (card c), search rules)
+
+pub advance-left-requires : goal.advance-left-requires
+advance-left-requires c =
+    let s = c.args.t1 in
+    let h = card c in
+    let fed = feeds_fit s h c.args.v.now c.requires.rested_value.1 in
+    (card_wires s h, (card_fitting s h, (((ready c.before.before.before.before.before.before.before.before.before).few, fed.0, fed.1), (ready c.before.before.before.before.before.before.before.before.before).doable)))
+
+pub returns : goal.returns
+returns c =
+    let s = c.args.t1 in
+    let v = c.args.v.now in
+    let left = c.advance-left.ensures ∙ ap (λ ks. stepped s.feeds s.types s.counts s.places s.sets ks s.words v) (ready c.before.before.before.before.before.before.before.before.before.before.before.before.before.before.before).named ∙ stepped_run s (card c) v c.requires.rested_value.1 (step_list (card_of s)) in
+    run_made s (given s.kinds v) (step_list (card_of s)) _ _ _ left (tops_ends s _ c.tops-before.ensures) c.with_words-next.ensures

@@ -1,0 +1,29 @@
+-- `step_vars::read_at` meets its contract. Assumes nothing.
+use mathlib.Core.Path.{sym, ◌∙◌}
+use Prim.Native.Nat.{◌<◌}
+use Rattle.rule.proofs.Nets.{open_is}
+use Rattle.step_vars.proofs.Pins.{pin_names, read_open, read_net}
+use borrow.Author.Rules.{rules}
+use Rattle.step_vars.proofs.read_at.Goals as goal
+
+-- a pin that is not open names a net
+below : (c : goal.After-wide16-n) → c.wide16-n.result < 256
+below c = pin_names c.args.p c.wide16-n.result c.requires.1 (λ q. c.if-p-eq-OPEN.false (q ∙ open_is)) c.wide16-n.ensures
+
+pub returns-then-p-eq-OPEN : goal.returns-then-p-eq-OPEN
+returns-then-p-eq-OPEN c = let a = c.args in read_open a.loose a.words.now a.sets.now a.t a.p (c.if-p-eq-OPEN.true ∙ sym open_is)
+
+pub bounds-sets-n : goal.bounds-sets-n
+bounds-sets-n c = below c
+
+pub bounds-words-n : goal.bounds-words-n
+bounds-words-n c = below c.before
+
+pub largest_below-requires : goal.largest_below-requires
+largest_below-requires c = c.requires.0
+
+pub returns : goal.returns
+returns c =
+    let a = c.args in
+    read_net a.loose a.words.now a.sets.now a.t a.p _ _ _ (λ q. c.if-p-eq-OPEN.false (q ∙ open_is))
+    c.wide16-n.ensures c.largest_below.ensures c.has.ensures

@@ -1,0 +1,6 @@
+use borrow.Author.Rules.{rules}
+use Rattle.word.proofs.Bits.{bit_moved_up}
+use Rattle.word.proofs.up.Goals as goal
+
+pub returns : goal.returns
+returns c t l = bit_moved_up 64 c.args.x c.args.low t l
