@@ -30,7 +30,7 @@ module _ (c : List Net) (moved : ℕ → ℕ → Bool) where
   pub way_length : (n t : ℕ) → length (causes c moved n t) ≡ t + 1
   unfolding causes
   way_length n zero = refl
-  way_length n (suc t) = ap suc (way_length _ t) ∙ omega arith
+  way_length n (suc t) = ap suc (way_length (first_pin (λ p. moved p t) (pins c n)) t) ∙ omega arith
 
   pub way_first : (n t d : ℕ) → get_or (causes c moved n t) 0 d ≡ n
   unfolding causes
@@ -59,4 +59,4 @@ way_on c moved moved' n zero h = refl
 way_on c moved moved' n (suc t) h =
     let e : first_pin (λ p. moved p t) (pins c n) ≡ first_pin (λ p. moved' p t) (pins c n) =
     first_on (λ p. moved p t) (λ p. moved' p t) (pins c n) (λ p m. h n p t m (omega arith)) in
-    ap (λ ns. n ∷ ns) (way_on c moved moved' _ t (λ g p u m l. h g p u m (omega arith)) ∙ ap (λ p. causes c moved' p t) e)
+    ap (λ ns. n ∷ ns) (way_on c moved moved' (first_pin (λ p. moved p t) (pins c n)) t (λ g p u m l. h g p u m (omega arith)) ∙ ap (λ p. causes c moved' p t) e)

@@ -138,7 +138,7 @@ least_first f (suc n) = go (f 0) refl (least_first (λ i. f (suc i)) n)
 
     go : (b : Bool) → f 0 ≡ b → First (λ i. f (suc i)) 0 n m → First f 0 (suc n) (cond b 0 (suc m))
     go true e ih = record { after = omega arith; within = omega arith; in_set = λ l. e; none_ahead = λ u a l. absurd (omega arith) }
-    go false e ih = record { after = omega arith; within = omega (arith, ih.within); in_set = λ l. ih.in-set (omega arith); none_ahead = λ u a l. later e ih u l }
+    go false e ih = record { after = omega arith; within = omega (arith, ih.within); in_set = λ l. ih.in_set (omega arith); none_ahead = λ u a l. later e ih u l }
 
 -- a set from a place on is the same from its first element on
 pub from_first : (f g : ℕ → Bool) (from n r : ℕ) → First f from n r → ((u : ℕ) → g u ≡ leb from u && f u) → (u : ℕ) → g u ≡ leb r u && f u
@@ -169,7 +169,7 @@ next_first f g from n r l h e =
     })
   where
     both : least g n < n → (leb from (least g n) ≡ true) × (f (least g n) ≡ true)
-    both a = and_both (leb from (least g n)) (f (least g n)) (sym (h (least g n)) ∙ (least_first g n).in-set a)
+    both a = and_both (leb from (least g n)) (f (least g n)) (sym (h (least g n)) ∙ (least_first g n).in_set a)
 
     go : Dec (least g n < n) → from ≤ least g n
     go (yes a) = leb-true from (least g n) (both a).0

@@ -1,6 +1,5 @@
 -- A gate's word of what its pins come to. Assumes nothing.
 use mathlib.Core.Path.{ap, ◌∙◌}
-use borrow.Author.Rules.{rules}
 use Rattle.word.specs.Word.{bit, differ}
 use Rattle.word.proofs.Bits.{bit-xor}
 use Rattle.gate.proofs.gate_word.Goals as goal

@@ -2,7 +2,6 @@
 -- the list in the definition, and `listed_at` reads one. Assumes nothing.
 use mathlib.Core.Path.{sym, ◌∙◌}
 use mathlib.Core.Bool.{false}
-use borrow.Author.Rules.{rules}
 use Rattle.lists.specs.Listed.{listed, listed_from}
 use Rattle.lists.proofs.Listed.{listed_at}
 use Rattle.word.specs.Word.{bit}

@@ -1,6 +1,5 @@
 -- `rule::net_number` meets its contract: a refusal's number is `number`'s. Assumes nothing.
 use mathlib.Core.Path.{sym, ap, ◌∙◌}
-use borrow.Author.Rules.{rules}
 use Rattle.rule.specs.Numbers.{net_number}
 use Rattle.rule.proofs.net_number.Goals as goal
 

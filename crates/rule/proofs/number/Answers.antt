@@ -1,6 +1,5 @@
 -- `rule::number` meets its contract: in each arm the refusal is the one that the arm names. Assumes nothing.
 use mathlib.Core.Path.{sym, ap}
-use borrow.Author.Rules.{rules}
 use Rattle.rule.specs.Numbers.{number_of}
 use Rattle.rule.proofs.number.Goals as goal
 

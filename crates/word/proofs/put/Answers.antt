@@ -4,7 +4,6 @@ use mathlib.Core.Bool.{cond}
 use Prim.Native.Nat.{◌-◌, ◌^◌}
 use lib.Bits.{bit_and, bit_or}
 use lib.Dec.{eqb}
-use borrow.Author.Rules.{rules}
 use Rattle.word.specs.Word.{bit}
 use Rattle.word.proofs.Bits.{one_shl, bit_put_one, bit_put_none}
 use Rattle.word.proofs.put.Goals as goal

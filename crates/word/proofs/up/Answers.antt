@@ -1,4 +1,3 @@
-use borrow.Author.Rules.{rules}
 use Rattle.word.proofs.Bits.{bit_moved_up}
 use Rattle.word.proofs.up.Goals as goal
 

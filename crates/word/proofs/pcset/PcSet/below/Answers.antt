@@ -4,7 +4,6 @@ use Prim.Native.Nat.{ℕ, ◌-◌, ◌<◌}
 use native.Mathlib.Omega.{arith}
 use lib.Pow.{pow_pos}
 use lib.Bits.{bit_and}
-use borrow.Author.Rules.{rules}
 use Rattle.word.specs.Word.{bit}
 use Rattle.word.proofs.Bits.{all_below, one_shl, bit_below}
 use Rattle.word.proofs.pcset.PcSet.below.Goals as goal

@@ -1,9 +1,7 @@
 -- The largest of those below t, with 0 inserted: `zero_below`. Assumes nothing.
-use mathlib.Core.Path.{◌≡◌, ◌∙◌}
-use Prim.Native.Nat.{ℕ}
+use mathlib.Core.Path.{◌∙◌}
 use native.Mathlib.Omega.{arith}
 use lib.Dec.{lit<}
-use borrow.Author.Rules.{rules}
 use Rattle.word.specs.Word.{bit}
 use Rattle.word.specs.Times.{no_time}
 use Rattle.word.proofs.Bits.{bit_high}

@@ -1,11 +1,9 @@
 -- Of a word nothing is left at 64 or past it, and before that the mask has the times from t on. Assumes nothing.
 use mathlib.Core.Path.{sym, ap, ◌∙◌}
-use mathlib.Core.Bool.{and-false}
 use Prim.Native.Nat.{ℕ, ◌-◌, ◌^◌, ◌<◌}
 use native.Mathlib.Omega.{arith}
 use lib.Pow.{pow_pos}
 use lib.Bits.{bit_and}
-use borrow.Author.Rules.{rules}
 use Rattle.word.specs.Word.{bit}
 use Rattle.word.proofs.Bits.{bit_none, past_none, one_shl, bit_mask_from}
 use Rattle.word.proofs.pcset.PcSet.not_below.Goals as goal

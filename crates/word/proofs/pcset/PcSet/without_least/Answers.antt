@@ -1,10 +1,8 @@
 -- Of an empty set nothing is left, and of any other all that is above its least time. Assumes nothing.
 use mathlib.Core.Path.{◌≡◌, sym, ap, ◌∙◌}
 use mathlib.Core.Bool.{◌&&◌, and-false}
-use Prim.Native.Nat.{ℕ}
 use native.Mathlib.Omega.{arith}
 use lib.Dec.{ltb}
-use borrow.Author.Rules.{rules}
 use Rattle.word.specs.Word.{bit}
 use Rattle.word.specs.Times.{least}
 use Rattle.word.proofs.Bits.{bit_none}
