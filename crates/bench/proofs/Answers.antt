@@ -55,8 +55,8 @@ module _ (s : Session) (h : HasCard s) where
     list_entry e l =
         let b : e < length (step_list c) = omega (arith, list_total s h held) in
         let r = step_low s h _ (list_only c _ (at_in (step_list c) e no_step b)) in
-        let n = list_named.net-is e b in
-        let t = list_named.time-is e b in
+        let n = list_named.net_is e b in
+        let t = list_named.time_is e b in
         record { number = omega (arith, list_few s h held); net = omega (arith, r.0); time = record { late = omega (arith, r.1); low = omega (arith, r.2) } }
 
     module _ (order : List ℕ) (verdict : Verdict) (judged : verdict ≡ judged_in s.counts s.places s.sets nets times total order) where

@@ -160,16 +160,16 @@ module _ (s : Session) (good : Good s) (v order : List ℕ) (k : ℕ) (room : Li
 
   module _ (d : Doing s v order k room) where
     pub bench_does : result ≡ bench_done s new order k room
-    bench_does = by_limits d.rested d.vector d.order-good true true (le-leb k (step_count s) d.asked) (le-leb (step_count s) (length room) d.roomy)
+    bench_does = by_limits d.rested d.vector d.order_good true true (le-leb k (step_count s) d.asked) (le-leb (step_count s) (length room) d.roomy)
 
     abbrev along : Ran
     along = ran_along s new (steps_of c (take k order))
 
     any : AnyOrder s new (steps_of c order)
-    any = run_any_order s good d.rested new (steps_of c order) d.order-good
+    any = run_any_order s good d.rested new (steps_of c order) d.order_good
 
     order_long : length order ≡ step_count s
-    order_long = (fit d.rested d.order-good).0
+    order_long = (fit d.rested d.order_good).0
 
     count_is : along.count ≡ k
     count_is = run_count s new (steps_of c (take k order)) ∙ length-map (take k order) (step_at (step_list c)) ∙ length-take-le k order (omega (arith, d.asked, order_long))
@@ -185,10 +185,10 @@ module _ (s : Session) (good : Good s) (v order : List ℕ) (k : ℕ) (room : Li
     unfolding bench_done
     bench_proper e m =
         ap (λ b. get_or b.room e 0) bench_does
-        ∙ filled_at (byte_at c along.words (take k order)) room (step_count s) e ((fit d.rested d.order-good).1.below e (take_in k order e m)) d.roomy
+        ∙ filled_at (byte_at c along.words (take k order)) room (step_count s) e ((fit d.rested d.order_good).1.below e (take_in k order e m)) d.roomy
         ∙ ap (λ b. cond b (val (bit (get_or along.words (step_at (step_list c) e).net 0) (step_at (step_list c) e).time)) not_done) (some_in (λ x. eqb x e) (take k order) e m (eq-eqb e e refl))
         ∙ ap val (ap (λ ks. bit (get_or (ran_along s new ks).words (step_at (step_list c) e).net 0) (step_at (step_list c) e).time) (sym (take_map (step_at (step_list c)) k order))
-        ∙ any.first-have k (step_at (step_list c) e) (subst (λ ks. step_at (step_list c) e ∈ ks) (sym (take_map (step_at (step_list c)) k order)) (in_map (step_at (step_list c)) (take k order) e m)))
+        ∙ any.first_have k (step_at (step_list c) e) (subst (λ ks. step_at (step_list c) e ∈ ks) (sym (take_map (step_at (step_list c)) k order)) (in_map (step_at (step_list c)) (take k order) e m)))
 
     pub bench_others : (e : ℕ) → e < step_count s → ¬ (e ∈ take k order) → get_or result.room e 0 ≡ not_done
     unfolding bench_done
@@ -212,7 +212,7 @@ module _ (s : Session) (good : Good s) (v order : List ℕ) (k : ℕ) (room : Li
         let w : take k order ≡ order = ap (λ n. take n order) (q ∙ sym order_long) ∙ take-length order in
         ap (λ b. b.moved) bench_does
         ∙ ap₂ (λ n x. record { answer = Done n; session = cond x (ran_session s along) s }) (count_is ∙ q) (eq-eqb k (step_count s) q)
-        ∙ ap (λ x. record { answer = Done (step_count s); session = x }) (ap (λ es. ran_session s (ran_along s new (steps_of c es))) w ∙ any.whole-leaves)
+        ∙ ap (λ x. record { answer = Done (step_count s); session = x }) (ap (λ es. ran_session s (ran_along s new (steps_of c es))) w ∙ any.whole_leaves)
 
   -- For every result
 

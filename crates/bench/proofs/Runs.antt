@@ -50,7 +50,7 @@ module _ (s : Session) (h : HasCard s) (nets times : List ℕ) (total : ℕ) (or
   c = card_of s
 
   pub total_few : total ≤ 4096
-  total_few = omega (arith, t.total-is, card_steps s h)
+  total_few = omega (arith, t.total_is, card_steps s h)
 
   -- an entry is a step's number
   pub entry_low : (i : ℕ) → i < length order → get_or order i 0 < 4096
@@ -58,16 +58,16 @@ module _ (s : Session) (h : HasCard s) (nets times : List ℕ) (total : ℕ) (or
 
   -- and a step's number names a step
   number_step : (e : ℕ) → e < total → IsStep c (step_at (step_list c) e)
-  number_step e l = list_only c _ (at_in (step_list c) e no_step (omega (arith, t.total-is)))
+  number_step e l = list_only c _ (at_in (step_list c) e no_step (omega (arith, t.total_is)))
 
   pub number_net : (e : ℕ) → e < total → get_or nets e 0 < 256
-  number_net e l = omega (arith, t.named.net-is e (omega (arith, t.total-is)), (step_low s h _ (number_step e l)).0)
+  number_net e l = omega (arith, t.named.net_is e (omega (arith, t.total_is)), (step_low s h _ (number_step e l)).0)
 
   module _ (k : ℕ) (short : k ≤ total) where
     pub steps_first : ordered_steps nets times order k ≡ steps_of c (take k order)
     steps_first =
         ordered_first nets times order k (omega (arith, t.long))
-        ∙ named_steps (step_list c) nets times t.named (take k order) (λ e m. omega (arith, t.total-is, t.below e (take_in k order e m)))
+        ∙ named_steps (step_list c) nets times t.named (take k order) (λ e m. omega (arith, t.total_is, t.below e (take_in k order e m)))
 
     pub first_doable : Doable s.types s.counts (ordered_steps nets times order k)
     first_doable =
@@ -89,15 +89,15 @@ module _ (s : Session) (h : HasCard s) (nets times : List ℕ) (total : ℕ) (or
 
       byte_is : (e : ℕ) → e < total → byte_in after nets times done e ≡ byte_at c after (take k order) e
       byte_is e l =
-          let b : e < length (step_list c) = omega (arith, t.total-is) in
+          let b : e < length (step_list c) = omega (arith, t.total_is) in
           ap (λ x. cond x (val (bit (get_or after (get_or nets e 0) 0) (get_or times e 0))) not_done)
           (ap (λ xs. get_or xs e false) marked ∙ listed_at (stands order k) 4096 e false (omega (arith, total_few)))
-          ∙ ap₂ (λ n u. cond (stands order k e) (val (bit (get_or after n 0) u)) not_done) (t.named.net-is e b) (t.named.time-is e b)
+          ∙ ap₂ (λ n u. cond (stands order k e) (val (bit (get_or after n 0) u)) not_done) (t.named.net_is e b) (t.named.time_is e b)
 
       written_is : written ≡ filled (byte_at c after (take k order)) (length (step_list c)) room
       written_is =
           Filled-is ∙ fills_same 0 (byte_in after nets times done) (byte_at c after (take k order)) total room byte_is
-          ∙ ap (λ n. filled (byte_at c after (take k order)) n room) t.total-is
+          ∙ ap (λ n. filled (byte_at c after (take k order)) n room) t.total_is
 
       abbrev benched_as : Ran → Session → Benched
       benched_as r next = record { moved = record { answer = Done r.count; session = next }; room = filled (byte_at c r.words (take k order)) (length (step_list c)) room }
@@ -110,10 +110,10 @@ module _ (s : Session) (h : HasCard s) (nets times : List ℕ) (total : ℕ) (or
           ∙ ap (λ r. benched_as r (cond (eqb k (length (step_list c))) (ran_session s r) s)) along_is
 
       pub part_done : k < total → record { moved = record { answer = Done count; session = s }; room = written } ≡ bench_done s new order k room
-      part_done l = handed false (ne_eqb k (length (step_list c)) (λ e. omega (arith, t.total-is))) s refl
+      part_done l = handed false (ne_eqb k (length (step_list c)) (λ e. omega (arith, t.total_is))) s refl
 
       pub whole_done : total ≤ k → (before : List Bool) (words : List ℕ) (next : Session) → before ≡ listed (ends s) 256 → words ≡ histories_from s.sets after
           → next ≡ resting s s.rested before words → record { moved = record { answer = Done count; session = next }; room = written } ≡ bench_done s new order k room
       unfolding ran_session
       whole_done l before words next eb ew en =
-          handed mathlib.Core.Bool.true (eq-eqb k (length (step_list c)) (omega (arith, t.total-is))) next (en ∙ ap₂ (λ b w. resting s s.rested b w) eb ew)
+          handed mathlib.Core.Bool.true (eq-eqb k (length (step_list c)) (omega (arith, t.total_is))) next (en ∙ ap₂ (λ b w. resting s s.rested b w) eb ew)

@@ -63,7 +63,7 @@ mark_long words k = length-set words k.net _
 
 pub named_steps : (ks : List Step) (nets times : List ℕ) → Naming ks nets times → (order : List ℕ) → ((e : ℕ) → e ∈ order → e < length ks) → order_steps nets times order ≡ map (step_at ks) order
 named_steps ks nets times n order below =
-    map_on (λ e. record { net = get_or nets e 0; time = get_or times e 0 }) (step_at ks) order (λ e m. λ i. record { net = n.net-is e (below e m) i; time = n.time-is e (below e m) i })
+    map_on (λ e. record { net = get_or nets e 0; time = get_or times e 0 }) (step_at ks) order (λ e m. λ i. record { net = n.net_is e (below e m) i; time = n.time_is e (below e m) i })
 
 -- a step of the arrays' range
 abbrev InRange : Step → Type 0

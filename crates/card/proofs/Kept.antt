@@ -153,7 +153,7 @@ module _ (s : Session) (h : HasCard s) where
     where
       go : Dec (depth c ≤ 63) → depth c ≤ 63
       go (yes l) = l
-      go (no l) = absurd (h.accepted.shallow ((deep_tells c).yes-is (lt-ltb 63 (depth c) (omega arith))))
+      go (no l) = absurd (h.accepted.shallow ((deep_tells c).yes_is (lt-ltb 63 (depth c) (omega arith))))
 
   pub card_level : (n : ℕ) → level c n ≤ 63
   card_level n = omega (arith, level_depth c n, card_depth)
@@ -163,7 +163,7 @@ module _ (s : Session) (h : HasCard s) where
     where
       go : Dec (length (step_list c) ≤ 4096) → length (step_list c) ≤ 4096
       go (yes l) = l
-      go (no l) = absurd (h.accepted.short ((long_tells c h.accepted.free card_fits.pinned).yes-is (lt-ltb 4096 (length (step_list c)) (omega arith))))
+      go (no l) = absurd (h.accepted.short ((long_tells c h.accepted.free card_fits.pinned).yes_is (lt-ltb 4096 (length (step_list c)) (omega arith))))
 
   -- the levels worked out from its wiring are the card's, and so is the depth
   levels_are : backs delay_at s.counts s.places (s.nets + 1) ≡ listed (level c) 256

@@ -133,7 +133,7 @@ module _ (old : Session) (c : List Net) where
 pub judge_laid : (old : Session) {c : List Net} {n : ℕ} {kinds types counts places : List ℕ} → Laid c n kinds types counts places
     → arrays_judged old n kinds types counts places ≡ judged old c
 judge_laid old {c} laid =
-    rw (laid.kinds-laid, laid.types-laid, laid.counts-laid, laid.places-laid, ← laid.size) (judged_card old c laid.fits laid.pinned)
+    rw (laid.kinds_laid, laid.types_laid, laid.counts_laid, laid.places_laid, ← laid.size) (judged_card old c laid.fits laid.pinned)
 
 -- Load, from what reading came to
 
@@ -165,8 +165,8 @@ module _ (old : Session) (s : List ℕ) (p : Parsed) (parsed : p ≡ parsed_of (
     pub load_wires : Wires p.counts p.places n
     load_wires =
         let l = load_laid in
-        subst (λ x. Wires x p.places n) (sym l.counts-laid)
-        (subst (λ y. Wires (counts_of found.nets) y n) (sym l.places-laid) (subst (Wires (counts_of found.nets) (places_of found.nets)) l.size (wires_laid found.nets l.fits)))
+        subst (λ x. Wires x p.places n) (sym l.counts_laid)
+        (subst (λ y. Wires (counts_of found.nets) y n) (sym l.places_laid) (subst (Wires (counts_of found.nets) (places_of found.nets)) l.size (wires_laid found.nets l.fits)))
 
     pub load_judged : arrays_judged old n p.kinds p.types p.counts p.places ≡ load_of old s
     unfolding load_of

@@ -31,10 +31,10 @@ pub record Tells (b : Bool) (P : Type 0) : Type 0 where
 -- and a test that tells passes exactly where P holds
 pub tells_true : (b : Bool) (P : Type 0) → Tells b P → P → b ≡ true
 tells_true true P t p = refl
-tells_true false P t p = absurd (t.no-is refl p)
+tells_true false P t p = absurd (t.no_is refl p)
 
 pub tells_false : (b : Bool) (P : Type 0) → Tells b P → ¬ P → b ≡ false
-tells_false true P t n = absurd (n (t.yes-is refl))
+tells_false true P t n = absurd (n (t.yes_is refl))
 tells_false false P t n = refl
 
 -- "at least one of them an input"
@@ -60,7 +60,7 @@ fed_or_not c = go (eqb (inputs_of c) 0) refl
     f n = is_input (net_at c n)
 
     go : (b : Bool) → eqb (inputs_of c) 0 ≡ b → Fed c ⊎ (¬ Fed c)
-    go true e = inr ((fed_tells c).yes-is e)
+    go true e = inr ((fed_tells c).yes_is e)
     go false e = let r = count_some f (length c) (eqb-false (count f (length c)) 0 e) in inl (r.0, r.1, is_input_lem (net_at c r.0) r.2)
 
 -- "a pin names no net and isn't 65535"

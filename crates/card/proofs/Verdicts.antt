@@ -109,22 +109,22 @@ module _ (old : Session) (s : List ℕ) (c : List Net) (w : Writes s c) (pinned 
   Ruled = Ruling old s (judged old c)
 
   rule_7 : Fed c → Named c → ¬ Looped c → ¬ Deep c → (b : Bool) → Tells b (Long c) → Ruled
-  rule_7 f n l d true t = subst (Ruling old s) (sym (judged_7 old c pinned f n l d (t.yes-is refl))) (refuses TooManySteps (gets_7 c w f n l d (t.yes-is refl)))
+  rule_7 f n l d true t = subst (Ruling old s) (sym (judged_7 old c pinned f n l d (t.yes_is refl))) (refuses TooManySteps (gets_7 c w f n l d (t.yes_is refl)))
   rule_7 f n l d false t =
-      let a : Accepted c = record { legible = w.legible; fed = f; named = n; free = l; shallow = d; short = t.no-is refl } in
+      let a : Accepted c = record { legible = w.legible; fed = f; named = n; free = l; shallow = d; short = t.no_is refl } in
       subst (Ruling old s) (sym (judged_0 old c pinned a)) (takes (record { card = c; bytes = w.bytes; accepted = a }))
 
   rule_6 : Fed c → Named c → ¬ Looped c → (b : Bool) → Tells b (Deep c) → Ruled
-  rule_6 f n l true t = subst (Ruling old s) (sym (judged_6 old c pinned f n l (t.yes-is refl))) (refuses TooDeep (gets_6 c w f n l (t.yes-is refl)))
-  rule_6 f n l false t = rule_7 f n l (t.no-is refl) (ltb 4096 (length (step_list c))) (long_tells c l pinned)
+  rule_6 f n l true t = subst (Ruling old s) (sym (judged_6 old c pinned f n l (t.yes_is refl))) (refuses TooDeep (gets_6 c w f n l (t.yes_is refl)))
+  rule_6 f n l false t = rule_7 f n l (t.no_is refl) (ltb 4096 (length (step_list c))) (long_tells c l pinned)
 
   rule_5 : Fed c → Named c → (b : Bool) → Tells b (Looped c) → Ruled
-  rule_5 f n true t = subst (Ruling old s) (sym (judged_5 old c pinned f n (t.yes-is refl))) (refuses LoopedCard (gets_5 c w f n (t.yes-is refl)))
-  rule_5 f n false t = rule_6 f n (t.no-is refl) (ltb 63 (depth c)) (deep_tells c)
+  rule_5 f n true t = subst (Ruling old s) (sym (judged_5 old c pinned f n (t.yes_is refl))) (refuses LoopedCard (gets_5 c w f n (t.yes_is refl)))
+  rule_5 f n false t = rule_6 f n (t.no_is refl) (ltb 63 (depth c)) (deep_tells c)
 
   rule_4 : Fed c → (b : Bool) → Tells b (Named c) → Ruled
-  rule_4 f true t = rule_5 f (t.yes-is refl) (ltb (length c) (most_back c)) (loop_tells c)
-  rule_4 f false t = subst (Ruling old s) (sym (judged_4 old c pinned f (t.no-is refl))) (refuses NoSuchPin (gets_4 c w f (t.no-is refl)))
+  rule_4 f true t = rule_5 f (t.yes_is refl) (ltb (length c) (most_back c)) (loop_tells c)
+  rule_4 f false t = subst (Ruling old s) (sym (judged_4 old c pinned f (t.no_is refl))) (refuses NoSuchPin (gets_4 c w f (t.no_is refl)))
 
   rule_9 : Ruled
   rule_9 = go (fed_or_not c)

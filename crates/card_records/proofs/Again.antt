@@ -97,7 +97,7 @@ module _ (s : List ℕ) where
       let whole : Whole (length s) at (kind_of w) (length (body_of w)) first =
       record { inside = h.inside; head = kind_fits_lem (kind_of w) _ (net_kind w l); body = b } in (
         net_record (kind_of w) (length (body_of w)) (at + 4) first,
-        sym (read_as s at (kind_of w) (length (body_of w)) first _ h.kind-is h.len_is refl (net whole (net_no_end w))),
+        sym (read_as s at (kind_of w) (length (body_of w)) first _ h.kind_is h.len_is refl (net whole (net_no_end w))),
         m,
         past (at + 4) (body_of w) rest h.body_is,
       )
@@ -123,4 +123,4 @@ module _ (s : List ℕ) where
   end_again at rest h =
       let head = head_of at 4 [] rest h in
       let whole : Whole (length s) at 4 0 (get_or s (at + 4) 0) = record { inside = head.inside; head = kind_fits_lem 4 0 (of_end refl refl); body = refl } in
-      (sym (read_as s at 4 0 (get_or s (at + 4) 0) _ head.kind-is head.len_is refl (end whole refl)), head.body_is, omega (arith, head.inside))
+      (sym (read_as s at 4 0 (get_or s (at + 4) 0) _ head.kind_is head.len_is refl (end whole refl)), head.body_is, omega (arith, head.inside))

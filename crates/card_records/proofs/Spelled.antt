@@ -126,7 +126,7 @@ module _ (s : List ℕ) (bytes : Bytes s) where
           let len : ℕ = u16_at s at in
           let v : Net = net_meant s (net_record (u16_at s (at + 2)) len (at + 4) (get_or s (at + 4) 0)) in
           let b = body_spelled at (u16_at s (at + 2)) len w no_end in (
-            head_spelled at (kind_of v) len (omega (arith, w.inside)) (sym known.kind-of) refl (body_of v) (drop (at + 4 + len) s) b.long b.body,
+            head_spelled at (kind_of v) len (omega (arith, w.inside)) (sym known.kind_of_lem) refl (body_of v) (drop (at + 4 + len) s) b.long b.body,
             b.legal,
           )
 

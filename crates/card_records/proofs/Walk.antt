@@ -69,7 +69,7 @@ module _ {s kinds types counts places : List ℕ} {n at : ℕ} (k : Walk s kinds
       → ◌≡◌ {A = Parsed} (record { outcome = Read n; kinds = kinds; types = types; counts = counts; places = places }) (parsed_of (meaning s))
   done next e q =
       let m : meaning s ≡ Means k.card = k.rest ∙ scan_end s at k.card (256 - n) next e q in
-      rw (m, k.kinds-are, k.types_are, k.counts-are, k.places-are, ← k.size)
+      rw (m, k.kinds_are, k.types_are, k.counts_are, k.places_are, ← k.size)
 
   -- or goes on
   pub more : (r : NetRecord) → record_read s at ≡ Netted r → n < 256
@@ -83,9 +83,9 @@ module _ {s kinds types counts places : List ℕ} {n at : ℕ} (k : Walk s kinds
         card = k.card ++ (w ∷ []);
         size = omega (arith, length-append k.card (w ∷ []), k.size);
         room = omega arith;
-        kinds_are = rw (k.kinds-are, ← k.size) (push_kinds k.card w few r.kind known.kind-of);
-        types_are = rw (k.types_are, ← k.size) (push_types k.card w few r.ty known.type-of);
-        counts_are = rw (k.counts-are, ← k.size) (push_counts k.card w few _ r.count known.pins-of);
-        places_are = rw (k.places-are, ← k.size) (push_places k.card w few _ r.count known.narrow known.pins-of);
+        kinds_are = rw (k.kinds_are, ← k.size) (push_kinds k.card w few r.kind known.kind_of_lem);
+        types_are = rw (k.types_are, ← k.size) (push_types k.card w few r.ty known.type_of_lem);
+        counts_are = rw (k.counts_are, ← k.size) (push_counts k.card w few _ r.count known.pins_of_lem);
+        places_are = rw (k.places_are, ← k.size) (push_places k.card w few _ r.count known.narrow known.pins_of_lem);
         rest = k.rest ∙ rw left (scan_net s at k.card (256 - (n + 1)) r e);
       }

@@ -39,7 +39,7 @@ module _ {counts places : List ℕ} {n : ℕ} (fit : all_fit counts places n ≡
   from_gates : let levels = backs delay_at counts places (n + 1) in
       cond (ltb n b) (refused_wiring Looped) (level_wired counts places n levels (highest levels n)) ≡ arrays_wired counts places n
   unfolding arrays_wired
-  from_gates = rw (back.highest-is, back.counted, fit)
+  from_gates = rw (back.highest_is, back.counted, fit)
 
   pub wired_looped : n < b → refused_wiring Looped ≡ arrays_wired counts places n
   wired_looped l = rw (← from_gates, lt-ltb n b l)
@@ -47,7 +47,7 @@ module _ {counts places : List ℕ} {n : ℕ} (fit : all_fit counts places n ≡
   -- and by the levels
   module _ {levels : List ℕ} {d : ℕ} (known : Counted delay_at counts places n levels d) (free : b ≤ n) where
     from_levels : level_wired counts places n levels d ≡ arrays_wired counts places n
-    from_levels = rw (← from_gates, le-ltb n b free, known.highest-is, known.counted)
+    from_levels = rw (← from_gates, le-ltb n b free, known.highest_is, known.counted)
 
     pub wired_deep : 63 < d → refused_wiring TooDeep ≡ arrays_wired counts places n
     wired_deep h = rw (← from_levels, lt-ltb 63 d h)

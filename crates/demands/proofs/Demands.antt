@@ -134,7 +134,7 @@ shown : {c : List Net} {inputs : ℕ} {state : ℕ → Bool} (s : Session) → S
     → ((n : ℕ) → n < length c → ((t : ℕ) → t < 64 → bit (get_or s.words n 0) t ≡ values n t) × (get_or s.before n false ≡ before n))
     → (words befores flags : List ℕ) → Roomy (length c) words befores flags → HandsOut c before values (history_of s words befores flags)
 shown {c} s at before values is words befores flags room =
-    let nets : s.nets ≡ length c = nets_are s (at.good.card (at.good.rest at.rested).0) ∙ ap length at.same-card in
+    let nets : s.nets ≡ length c = nets_are s (at.good.card (at.good.rest at.rested).0) ∙ ap length at.same_card in
     let ok = (history_0 s words befores flags).1 (at.rested, subst (λ k. Roomy k words befores flags) (sym nets) room) in
     let net : (n : ℕ) → n < length c → n < s.nets = λ n l. omega (arith, nets) in
     let shows = history_shows s at.good at.rested words befores flags ok in
@@ -167,7 +167,7 @@ module _ (s : Session) (g : Good s) (l : s.loaded ≡ true) (u : List ℕ) (fits
       flat n t b q = rest_flat s g l u fits n t (omega (arith, (card_fits s (g.card l)).fits.few)) q
 
       settled : (n : ℕ) → n < length (card_of s) → get_or left.before n false ≡ start n
-      settled n b = sym (flat n 63 b (lit< tt)) ∙ ended left n ∙ stands.ends-are n b
+      settled n b = sym (flat n 63 b (lit< tt)) ∙ ended left n ∙ stands.ends_are n b
 
       out : HandsOut (card_of s) start (λ n t. start n) (history_of left words befores flags)
       out = shown left stands start (λ n t. start n) (λ n b. (λ t q. flat n t b q ∙ settled n b, settled n b)) words befores flags room

@@ -62,7 +62,7 @@ module _ (s : Session) (words befores flags : List ℕ) where
 
   roomy_passes : Room → room_test ≡ true
   roomy_passes l =
-      and_make _ _ (le-leb s.nets (length words) l.for-words) (and_make _ _ (le-leb s.nets (length befores) l.for-befores) (le-leb s.nets (length flags) l.for-flags))
+      and_make _ _ (le-leb s.nets (length words) l.for_words) (and_make _ _ (le-leb s.nets (length befores) l.for_befores) (le-leb s.nets (length flags) l.for_flags))
 
   pub gives_12 : s.rested ≡ false → history_of s words befores flags ≡ unwritten words befores flags (Refused NotReady)
   gives_12 e = by_them ∙ ap (λ b. by_tests b room_test) e
@@ -179,9 +179,9 @@ module _ (s : Session) (g : Good s) (rested : s.rested ≡ true) (words befores 
       → (get_or (heard s words befores flags).words n 0 ≡ word_at s n) × (get_or (heard s words befores flags).befores n 0 ≡ val (before_at s n)) × (get_or (heard s words befores flags).flags n 0 ≡ flag_at s n)
   history_shows n l =
       let left = wrote s words befores flags ok in (
-        ap (λ x. get_or x.words n 0) left ∙ filled_at (word_at s) words s.nets n l room.for-words,
-        ap (λ x. get_or x.befores n 0) left ∙ filled_at (before_byte s) befores s.nets n l room.for-befores,
-        ap (λ x. get_or x.flags n 0) left ∙ filled_at (flag_at s) flags s.nets n l room.for-flags,
+        ap (λ x. get_or x.words n 0) left ∙ filled_at (word_at s) words s.nets n l room.for_words,
+        ap (λ x. get_or x.befores n 0) left ∙ filled_at (before_byte s) befores s.nets n l room.for_befores,
+        ap (λ x. get_or x.flags n 0) left ∙ filled_at (flag_at s) flags s.nets n l room.for_flags,
       )
 
   pub history_word_lem : (n t : ℕ) → n < s.nets → t < 64 → bit (get_or (heard s words befores flags).words n 0) t ≡ rule_value s run n t

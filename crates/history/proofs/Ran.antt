@@ -25,7 +25,7 @@ module _ (s : Session) (h : HasCard s) (r : Rested s) where
   v = rule_value s r
 
   pub before_is : (n : ℕ) → n < 256 → before_at s n ≡ r.old n
-  before_is n l = ap (λ xs. get_or xs n false) r.before-are ∙ listed_at r.old 256 n false l
+  before_is n l = ap (λ xs. get_or xs n false) r.before_are ∙ listed_at r.old 256 n false l
 
   pub word_is : (n : ℕ) → n < 256 → word_at s n ≡ word_of 64 (v n)
   unfolding histories

@@ -60,15 +60,15 @@ module _ {c : List Net} {inputs : ℕ} {state : ℕ → Bool} {t : Session} (at 
   -- by the rule of the card alone
   value_here : (n u : ℕ) → value (card_of t) (ends t) (given t.kinds v) n u ≡ value c state (given_to c v) n u
   value_here n u =
-      ap (λ d. value d (ends t) (given t.kinds v) n u) at.same-card
-      ∙ value_same c (λ m. Unit {0}) (λ m p i j. tt) (ends t) state (given t.kinds v) (given_to c v) (λ m i e. at.ends-are m (gate_listed c m e))
-      (λ m i e. given_card t card v m ∙ ap (λ d. given_to d v m) at.same-card) n u tt
+      ap (λ d. value d (ends t) (given t.kinds v) n u) at.same_card
+      ∙ value_same c (λ m. Unit {0}) (λ m p i j. tt) (ends t) state (given t.kinds v) (given_to c v) (λ m i e. at.ends_are m (gate_listed c m e))
+      (λ m i e. given_card t card v m ∙ ap (λ d. given_to d v m) at.same_card) n u tt
 
   stands_rule : (n : ℕ) → n < length c
       → ((u : ℕ) → u < 64 → bit (word_at (vector_of t v).session n) u ≡ value c state (given_to c v) n u) × (before_at (vector_of t v).session n ≡ state n)
   stands_rule n l =
-      let here = vector_rule t at.good at.rested v fits_here n (omega (arith, nets_are t card, ap length at.same-card)) in
-      (λ u b. here.0 u b ∙ value_here n u, here.1 ∙ at.ends-are n l)
+      let here = vector_rule t at.good at.rested v fits_here n (omega (arith, nets_are t card, ap length at.same_card)) in
+      (λ u b. here.0 u b ∙ value_here n u, here.1 ∙ at.ends_are n l)
 
   vector_stands : Stands c inputs (λ n. value c state (given_to c v) n 63) (vector_of t v).session
   unfolding ends
@@ -77,7 +77,7 @@ module _ {c : List Net} {inputs : ℕ} {state : ℕ → Bool} {t : Session} (at 
       record {
         good = vector_good t at.good v;
         rested = ap (λ x. x.session.rested) taken ∙ same.0 ∙ at.rested;
-        same_card = ap (λ x. card_of x.session) taken ∙ same.1 ∙ at.same-card;
+        same_card = ap (λ x. card_of x.session) taken ∙ same.1 ∙ at.same_card;
         same_inputs = ap (λ x. x.session.inputs) taken ∙ same.2 ∙ at.same_inputs;
         ends_are = λ n l. (stands_rule n l).0 63 (lit< tt);
       }

@@ -28,7 +28,7 @@ pub hand_back : (p : Portion) {sheet : Sheet} {old new : List ℕ} {n : ℕ} →
 unfolding written
 hand_back p {n = n} e q =
     let l : n ≡ length p.text = omega (arith, q.end_is) in
-    λ i. record { piece = record { sheet = e i; length = l i }; page = q.page-is i }
+    λ i. record { piece = record { sheet = e i; length = l i }; page = q.page_is i }
 
 -- a piece that is another's
 pub hand_on : {x : Written} (old : List ℕ) {p q : Portion} → p ≡ q → x ≡ written p old → x ≡ written q old

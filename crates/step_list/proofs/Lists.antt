@@ -37,8 +37,8 @@ module _ (ks : List Step) (nets₀ times₀ nets times : List ℕ) (n : ℕ) (ho
       let more : length (ks ++ (k ∷ [])) ≡ n + 1 = length-append ks (k ∷ []) ∙ ap (λ m. m + 1) (sym e) in
       record {
         size = sym more;
-        nets_are = put (λ j. j.net) nets₀ nets ln holds.nets-are ∙ ap (λ m. filled (λ i. (step_at (ks ++ (k ∷ [])) i).net) m nets₀) (sym more);
-        times_are = put (λ j. j.time) times₀ times lt holds.times-are ∙ ap (λ m. filled (λ i. (step_at (ks ++ (k ∷ [])) i).time) m times₀) (sym more);
+        nets_are = put (λ j. j.net) nets₀ nets ln holds.nets_are ∙ ap (λ m. filled (λ i. (step_at (ks ++ (k ∷ [])) i).net) m nets₀) (sym more);
+        times_are = put (λ j. j.time) times₀ times lt holds.times_are ∙ ap (λ m. filled (λ i. (step_at (ks ++ (k ∷ [])) i).time) m times₀) (sym more);
       }
     where
       put : (part : Step → ℕ) (room xs : List ℕ) → n < length room → xs ≡ filled (λ i. part (step_at ks i)) (length ks) room
@@ -133,10 +133,10 @@ module _ {ks : List Step} {nets₀ times₀ nets times : List ℕ} {n : ℕ} (h 
   part of old xs q z e l = ap (λ x. get_or x e 0) z ∙ fills_at 0 (λ i. of (step_at ks i)) (length ks) e old (omega (arith, h.size)) l
 
   pub held_net : (e : ℕ) → e < length ks → get_or nets e 0 ≡ (step_at ks e).net
-  held_net = part (λ k. k.net) nets₀ nets ln h.nets-are
+  held_net = part (λ k. k.net) nets₀ nets ln h.nets_are
 
   pub held_time : (e : ℕ) → e < length ks → get_or times e 0 ≡ (step_at ks e).time
-  held_time = part (λ k. k.time) times₀ times lt h.times-are
+  held_time = part (λ k. k.time) times₀ times lt h.times_are
 
   pub held_steps : steps_named nets times n ≡ ks
   held_steps =

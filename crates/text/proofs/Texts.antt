@@ -22,7 +22,7 @@ sets_append (a ∷ s) t l i = sets_append s t (set l i a) (suc i) ∙ ap (λ k. 
 pub put_then : {s t a b c : List ℕ} {i j k : ℕ} → Put s a i b j → Put t b j c k → Put (s ++ t) a i c k
 put_then {s} {t} {a} {b} {c} {i} {j} {k} p q =
     record {
-      page_is = q.page-is ∙ ap (λ l. sets l j t) p.page-is ∙ ap (λ m. sets (sets a i s) m t) p.end_is ∙ sym (sets_append s t a i);
+      page_is = q.page_is ∙ ap (λ l. sets l j t) p.page_is ∙ ap (λ m. sets (sets a i s) m t) p.end_is ∙ sym (sets_append s t a i);
       end_is = omega (arith, p.end_is, q.end_is, length-append s t);
     }
 

@@ -16,54 +16,46 @@ use Rattle.step_vars.proofs.Stores.{start_words}
 use Rattle.step_run.proofs.Vectors.{start_is}
 use Rattle.bench.proofs.Runs.{total_few, entry_low, number_net, first_doable, part_done, whole_done}
 use Rattle.bench.proofs.do_first.Goals as goal
+use Rattle.bench.proofs.do_first.Goals.{After-start-vars, After-tops-before, Start}
 
-card : (c : goal.Start) → HasCard c.args.t1
+card : (c : Start) → HasCard c.args.t1
 card c = c.requires.good.card (c.requires.good.rest c.requires.rested_value.0).0
 
-before-is : (c : goal.After-tops-before) → c.tops-before.result ≡ listed (ends c.args.t1) 256
+before-is : (c : After-tops-before) → c.tops-before.result ≡ listed (ends c.args.t1) 256
 before-is c = tops_ends c.args.t1 c.tops-before.result c.tops-before.ensures
 
 -- the variables start at the before values and the inputs' new ones
-started : (c : goal.After-start-vars) → c.start-vars.result ≡ start_vars c.args.t1 (given c.args.t1.kinds c.args.v.now)
-started c = start_is c.args.t1 (card c) c.args.v.now c.requires.rested_value.1 _ _ (before-is c.before.before.before.before) c.start-vars.ensures
+started : (c : After-start-vars) → c.start-vars.result ≡ start_vars c.args.t1 (given c.args.t1.kinds c.args.v.now)
+started c = start_is c.args.t1 ((let it : HasCard c.args.t1 = c.requires.good.card (c.requires.good.rest c.requires.rested_value.0).0 in it)) c.args.v.now c.requires.rested_value.1 _ _ ((let it : c.tops-before.result ≡ listed (ends c.args.t1) 256 = tops_ends c.args.t1 c.tops-before.result c.tops-before.ensures in it)) c.start-vars.ensures
 
 pub start-vars-requires : goal.start-vars-requires
-start-vars-requires c = feeds_fit c.args.t1 (card c) c.args.v.now c.requires.rested_value.1
+start-vars-requires c = feeds_fit c.args.t1 (card (goal.at.start-vars-requires c).Start) c.args.v.now c.requires.rested_value.1
 
 pub run_order-count-requires : goal.run_order-count-requires
 run_order-count-requires c =
     let s = c.args.t1 in
     let t = c.requires.taken in
-    let first = c.requires.first_le_total.0 in (
-      card_wires s (card c),
-      (
-        card_fitting s (card c),
-        (
-          (omega (arith, first, t.long), (λ i l. entry_low s (card c) _ _ _ c.args.order.now t i (omega (arith, first, t.long))), subst Words (sym c.start-vars.ensures) (start_words _ _ _)),
-          first_doable s (card c) _ _ c.args.total _ t c.args.first first,
-        ),
-      ),
-    )
+    let first = c.requires.first_le_total.0 in record { wires = card_wires s (card (goal.at.run_order-count-requires c).Start); fitting = card_fitting s (card (goal.at.run_order-count-requires c).Start); k_in_bounds = (omega (arith, first, t.long), (λ i l. entry_low s (card (goal.at.run_order-count-requires c).Start) _ _ _ c.args.order.now t i (omega (arith, first, t.long))), subst Words (sym c.start-vars.ensures) (start_words _ _ _)); doable = first_doable s (card (goal.at.run_order-count-requires c).Start) _ _ c.args.total _ t c.args.first first }
 
 pub among-done-requires : goal.among-done-requires
 among-done-requires c =
     let t = c.requires.taken in
-    (omega (arith, c.requires.first_le_total.0, t.long), entry_low c.args.t1 (card c) _ _ _ c.args.order.now t)
+    (omega (arith, c.requires.first_le_total.0, t.long), entry_low c.args.t1 (card (goal.at.among-done-requires c).Start) _ _ _ c.args.order.now t)
 
 pub put_bytes-requires : goal.put_bytes-requires
 put_bytes-requires c =
     let t = c.requires.taken in
-    (total_few c.args.t1 (card c) _ _ _ _ t, c.requires.first_le_total.1, number_net c.args.t1 (card c) _ _ _ _ t)
+    (total_few c.args.t1 (card (goal.at.put_bytes-requires c).Start) _ _ _ _ t, c.requires.first_le_total.1, number_net c.args.t1 (card (goal.at.put_bytes-requires c).Start) _ _ _ _ t)
 
 pub returns-then-first-total : goal.returns-then-first-total
 returns-then-first-total c =
     let a = c.args in
-    part_done a.t1 (card c) _ _ a.total a.order.now c.requires.taken a.first c.requires.first_le_total.0 (given a.t1.kinds a.v.now) _ _ _ _ a.room.now _
-    (started c.before.before.before.before.before.before.before.before.before.before.before.before.before.before.before) c.run_order-count.ensures c.among-done.ensures c.put_bytes.ensures c.if-first-total.true
+    part_done a.t1 (card (goal.at.returns-then-first-total c).Start) _ _ a.total a.order.now c.requires.taken a.first c.requires.first_le_total.0 (given a.t1.kinds a.v.now) _ _ _ _ a.room.now _
+    (started (goal.at.returns-then-first-total c).After-start-vars) c.run_order-count.ensures c.among-done.ensures c.put_bytes.ensures c.if-first-total.true
 
 pub returns : goal.returns
 returns c =
     let a = c.args in
-    whole_done a.t1 (card c) _ _ a.total a.order.now c.requires.taken a.first c.requires.first_le_total.0 (given a.t1.kinds a.v.now) _ _ _ _ a.room.now _
-    (started c.before.before.before.before.before.before.before.before.before.before.before.before.before.before.before.before.before.before.before.before) c.run_order-count.ensures c.among-done.ensures c.put_bytes.ensures c.if-first-total.false
-    _ _ _ (before-is c.before.before.before.before.before.before.before.before.before.before.before.before.before.before.before.before.before.before.before.before.before.before.before.before) c.histories_from-words.ensures c.with_words-next.ensures
+    whole_done a.t1 (card (goal.at.returns c).Start) _ _ a.total a.order.now c.requires.taken a.first c.requires.first_le_total.0 (given a.t1.kinds a.v.now) _ _ _ _ a.room.now _
+    (started (goal.at.returns c).After-start-vars) c.run_order-count.ensures c.among-done.ensures c.put_bytes.ensures c.if-first-total.false
+    _ _ _ (before-is (goal.at.returns c).After-tops-before) c.histories_from-words.ensures c.with_words-next.ensures

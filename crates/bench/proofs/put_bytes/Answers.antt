@@ -9,9 +9,10 @@ use Rattle.lists.proofs.Rooms.{filled_none, filled_turn, filled_keeps}
 use Rattle.bench.specs.Inner.Taken.{byte_in}
 use Rattle.bench.proofs.Bytes.{byte_at}
 use Rattle.bench.proofs.put_bytes.Goals as goal
+use Rattle.bench.proofs.put_bytes.Goals.{After-step_byte-arg-1}
 
 -- a step's net is a place of the arrays
-placed : (c : goal.After-step_byte-arg-1) → c.wide16-g.result < 256
+placed : (c : After-step_byte-arg-1) → c.wide16-g.result < 256
 placed c =
     let e = c.wide16-g.ensures in
     omega (arith, c.requires.2 c.loop-e.e (omega arith))
@@ -20,10 +21,10 @@ pub loop-e-init : goal.loop-e-init
 loop-e-init c = (omega arith, filled_none _ _)
 
 pub offset_bounds-vars-g : goal.offset_bounds-vars-g
-offset_bounds-vars-g c = let h = placed c in search rules
+offset_bounds-vars-g c = let h = placed (goal.at.offset_bounds-vars-g c).After-step_byte-arg-1 in search rules
 
 pub bounds-vars-g : goal.bounds-vars-g
-bounds-vars-g c = placed c
+bounds-vars-g c = placed (goal.at.bounds-vars-g c).After-step_byte-arg-1
 
 pub bounds-room-e : goal.bounds-room-e
 bounds-room-e c =

@@ -7,13 +7,14 @@ use Rattle.card.specs.Held.{HasCard}
 use Rattle.card.specs.Asked.{depth_asked}
 use Rattle.card.proofs.Kept.{few, card_wires, card_fitting, depth_is}
 use Rattle.card.proofs.depth_of.Goals as goal
+use Rattle.card.proofs.depth_of.Goals.{Else-not-s}
 
 -- past the test a card is loaded
-loaded : (c : goal.Else-not-s) → c.args.t1.loaded ≡ true
-loaded c = not-false _ c.if-not-s.false-raw
+loaded : (c : Else-not-s) → c.args.t1.loaded ≡ true
+loaded c = c.if-not-s.false
 
-card : (c : goal.Else-not-s) → HasCard c.args.t1
-card c = c.requires (loaded c)
+card : (c : Else-not-s) → HasCard c.args.t1
+card c = c.requires ((let it : c.args.t1.loaded ≡ true = c.if-not-s.false in it))
 
 pub returns-then-not-s : goal.returns-then-not-s
 unfolding depth_asked
@@ -22,13 +23,13 @@ returns-then-not-s c = rw (not-true c.args.t1.loaded c.if-not-s.true-raw)
 pub gates_back-levels-requires : goal.gates_back-levels-requires
 gates_back-levels-requires c =
     let s = c.args.t1 in
-    (card_wires s (card c.before.before.before), card_fitting s (card c.before.before.before))
+    record { wires = card_wires s (card (goal.at.gates_back-levels-requires c).Else-not-s); fitting = card_fitting s (card (goal.at.gates_back-levels-requires c).Else-not-s) }
 
 pub highest_of-requires : goal.highest_of-requires
-highest_of-requires c = few c.args.t1 (card c.before.before.before.before.before)
+highest_of-requires c = few c.args.t1 (card (goal.at.highest_of-requires c).Else-not-s)
 
 pub returns : goal.returns
 unfolding depth_asked
 returns c =
     let s = c.args.t1 in
-    c.highest_of.ensures ∙ ap (λ xs. highest xs s.nets) c.gates_back-levels.ensures ∙ depth_is s (card c.before.before.before.before.before.before) ∙ rw (loaded c.before.before.before.before.before.before)
+    c.highest_of.ensures ∙ ap (λ xs. highest xs s.nets) c.gates_back-levels.ensures ∙ depth_is s (card (goal.at.returns c).Else-not-s) ∙ rw (loaded (goal.at.returns c).Else-not-s)

@@ -5,12 +5,13 @@ use borrow.Author.Rules.{rules}
 use Rattle.card_records.specs.Bytes.{net_record}
 use Rattle.card_records.proofs.Heads.{gate_length, kind_gate}
 use Rattle.card_records.proofs.net_record.Goals as goal
+use Rattle.card_records.proofs.net_record.Goals.{In_default}
 
-gate : (c : goal.In_default) → c.args.kind ≡ 3
+gate : (c : In_default) → c.args.kind ≡ 3
 gate c = kind_gate _ _ c.requires.fits c.in_default.rest.0.1 c.in_default.rest.1 c.requires.no_end
 
 pub overflow_sub-result : goal.overflow_sub-result
-overflow_sub-result c = omega (arith, gate_length _ _ c.requires.fits (gate c))
+overflow_sub-result c = omega (arith, gate_length _ _ c.requires.fits (gate (goal.at.overflow_sub-result c).In_default))
 
 pub returns-in-1 : goal.returns-in-1
 unfolding net_record
@@ -22,4 +23,4 @@ returns-in-2 c = rw c.in-2.is
 
 pub returns-in_default : goal.returns-in_default
 unfolding net_record
-returns-in_default c = rw (gate c)
+returns-in_default c = rw (gate (goal.at.returns-in_default c).In_default)

@@ -11,6 +11,7 @@ use Rattle.card_records.specs.Inner.Reading.{parsed_of}
 use Rattle.card_records.proofs.Meant.{Meant, meant}
 use Rattle.card_records.proofs.Walk.{Walk, begin, bad, after, full, done, more}
 use Rattle.card_records.proofs.parse.Goals as goal
+use Rattle.card_records.proofs.parse.Goals.{Else-n-eq256}
 
 pub loop-f-init : goal.loop-f-init
 loop-f-init c = begin _
@@ -38,30 +39,30 @@ returns-then-n-eq256 c =
     c.refused-then-n-eq256.ensures ∙ ap parsed_of (sym (full walk _ (sym c.read.ensures ∙ c.in-Net.is) (omega arith)))
 
 -- past the test for room: the net that was read, and its place below 256
-netted : (c : goal.Else-n-eq256) → record_read c.args.s.now c.loop-f.at ≡ Net c.in-Net.r
+netted : (c : Else-n-eq256) → record_read c.args.s.now c.loop-f.at ≡ Net c.in-Net.r
 netted c = sym c.read.ensures ∙ c.in-Net.is
 
-known : (c : goal.Else-n-eq256) → Meant c.args.s.now c.in-Net.r
-known c = meant _ _ _ (netted c)
+known : (c : Else-n-eq256) → Meant c.args.s.now c.in-Net.r
+known c = meant _ _ _ ((let it : record_read c.args.s.now c.loop-f.at ≡ Net c.in-Net.r = sym c.read.ensures ∙ c.in-Net.is in it))
 
-few : (c : goal.Else-n-eq256) → c.loop-f.n < 256
+few : (c : Else-n-eq256) → c.loop-f.n < 256
 few c = let room = c.loop-f.invariant.room in omega arith
 
 pub bounds-kinds-n : goal.bounds-kinds-n
-bounds-kinds-n c = few c
+bounds-kinds-n c = few (goal.at.bounds-kinds-n c).Else-n-eq256
 
 pub bounds-types-n : goal.bounds-types-n
-bounds-types-n c = few c
+bounds-types-n c = few (goal.at.bounds-types-n c).Else-n-eq256
 
 pub overflow_cast-counts : goal.overflow_cast-counts
-overflow_cast-counts c = let narrow = (known c).narrow in omega arith
+overflow_cast-counts c = let narrow = (known (goal.at.overflow_cast-counts c).Else-n-eq256).narrow in omega arith
 
 pub bounds-counts-n : goal.bounds-counts-n
-bounds-counts-n c = few c
+bounds-counts-n c = few (goal.at.bounds-counts-n c).Else-n-eq256
 
 pub put_pins-requires : goal.put_pins-requires
-put_pins-requires c = (few c.before, (known c.before).narrow, (known c.before).inside)
+put_pins-requires c = (few (goal.at.put_pins-requires c).Else-n-eq256, (known (goal.at.put_pins-requires c).Else-n-eq256).narrow, (known (goal.at.put_pins-requires c).Else-n-eq256).inside)
 
 pub loop-f-preserved : goal.loop-f-preserved
 loop-f-preserved c =
-    rw c.put_pins.ensures (more c.loop-f.invariant _ (netted c.before.before) (few c.before.before))
+    rw c.put_pins.ensures (more c.loop-f.invariant _ (netted (goal.at.loop-f-preserved c).Else-n-eq256) (few (goal.at.loop-f-preserved c).Else-n-eq256))

@@ -14,7 +14,7 @@ loop-k-init c = (omega arith, backs_none (λ g. 1) c.args.counts.now c.args.plac
 
 pub sweep-next-requires : goal.sweep-next-requires
 sweep-next-requires c =
-    (c.requires.wires, (c.requires.fitting, (omega arith, c.loop-k.invariant.1)))
+    record { wires = c.requires.wires; fitting = c.requires.fitting; k_bound = (omega arith, c.loop-k.invariant.1) }
 
 pub same-requires : goal.same-requires
 same-requires c = (rw c.loop-k.invariant.1 (length_listed _ 256), rw c.sweep-next.ensures (length_listed _ 256))

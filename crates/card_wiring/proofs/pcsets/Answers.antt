@@ -9,9 +9,10 @@ use Rattle.lists.specs.Listed.{listed}
 use Rattle.card_wiring.specs.Inner.Wires.{sets_along}
 use Rattle.card_wiring.proofs.Sets.{along_none, along_more}
 use Rattle.card_wiring.proofs.pcsets.Goals as goal
+use Rattle.card_wiring.proofs.pcsets.Goals.{After-wide16-g}
 
 -- the gate that is read is a net
-below : (c : goal.After-wide16-g) → c.wide16-g.result < 256
+below : (c : After-wide16-g) → c.wide16-g.result < 256
 below c = let e = c.wide16-g.ensures in omega (arith, c.requires.gates_bound.1 c.loop-i.i)
 
 pub loop-i-init : goal.loop-i-init
@@ -19,13 +20,13 @@ loop-i-init c = let a = c.args in (omega arith, c.source_sets-sets.ensures ∙ a
 
 pub set_of-requires : goal.set_of-requires
 set_of-requires c =
-    record { wires = c.requires.wires; fitting = c.requires.fitting; g_bound = below c.before }
+    record { wires = c.requires.wires; fitting = c.requires.fitting; g_bound = below (goal.at.set_of-requires c).After-wide16-g }
 
 pub offset_bounds-sets-g : goal.offset_bounds-sets-g
-offset_bounds-sets-g c = omega (arith, below c.before.before)
+offset_bounds-sets-g c = omega (arith, below (goal.at.offset_bounds-sets-g c).After-wide16-g)
 
 pub bounds-sets-g : goal.bounds-sets-g
-bounds-sets-g c = omega (arith, below c.before.before)
+bounds-sets-g c = omega (arith, below (goal.at.bounds-sets-g c).After-wide16-g)
 
 pub loop-i-preserved : goal.loop-i-preserved
 loop-i-preserved c =

@@ -39,4 +39,4 @@ pub returns : goal.returns
 returns c =
     let w = c.wide-count.ensures in
     let e : c.loop-j.j ≡ get_or c.args.counts.now c.args.g 0 = omega arith in
-    raised_joined c.args.g c.loop-j.all.word c.raise-raised.result.word _ (omega (arith, c.raise-raised.type-inv)) (rw e at c.loop-j.invariant.2) c.raise-raised.ensures
+    raised_joined c.args.g c.loop-j.all.word c.raise-raised.result.word _ (omega (arith, c.raise-raised.type_inv)) (rw e at c.loop-j.invariant.2) c.raise-raised.ensures

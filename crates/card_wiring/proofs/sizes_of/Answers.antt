@@ -12,19 +12,20 @@ use Rattle.word.proofs.Sets.{count_le}
 use Rattle.card_wiring.specs.Inner.Wires.{sizes_of}
 use Rattle.card_wiring.proofs.Sets.{sizes_none, sizes_more}
 use Rattle.card_wiring.proofs.sizes_of.Goals as goal
+use Rattle.card_wiring.proofs.sizes_of.Goals.{After-wide16}
 
 -- the gate that is read is a net
-below : (c : goal.After-wide16) → c.wide16.result < 256
+below : (c : After-wide16) → c.wide16.result < 256
 below c = let e = c.wide16.ensures in omega (arith, c.requires.1 c.loop-i.i)
 
 pub loop-i-init : goal.loop-i-init
 loop-i-init c = (omega arith, omega arith, sym (sizes_none _ _))
 
 pub offset_bounds-sets-wide16 : goal.offset_bounds-sets-wide16
-offset_bounds-sets-wide16 c = omega (arith, below c)
+offset_bounds-sets-wide16 c = omega (arith, below (goal.at.offset_bounds-sets-wide16 c).After-wide16)
 
 pub bounds-sets-wide16 : goal.bounds-sets-wide16
-bounds-sets-wide16 c = omega (arith, below c)
+bounds-sets-wide16 c = omega (arith, below (goal.at.bounds-sets-wide16 c).After-wide16)
 
 pub loop-i-preserved : goal.loop-i-preserved
 loop-i-preserved c =

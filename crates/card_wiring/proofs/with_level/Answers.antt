@@ -12,19 +12,20 @@ use Rattle.card_wiring.specs.Inner.Wires.{row, order_of}
 use Rattle.card_wiring.specs.Inner.Wired.{as_order}
 use Rattle.card_wiring.proofs.Orders.{row_more, order_more, order_room, ordered_more}
 use Rattle.card_wiring.proofs.with_level.Goals as goal
+use Rattle.card_wiring.proofs.with_level.Goals.{After-with_net-arg-1}
 
 pub loop-g-init : goal.loop-g-init
 loop-g-init c = (omega arith, c.requires.2 ∙ ap as_order (sym (append-nil (order_of c.args.levels.now c.args.n (c.args.l - 1)))))
 
 -- there is room for a net of level l
-room : (c : goal.After-with_net-arg-1) → (let l = c.loop-g in let a = c.args in get_or a.levels.now l.g 0 ≡ a.l → l.next.gates < 256)
+room : (c : After-with_net-arg-1) → (let l = c.loop-g in let a = c.args in get_or a.levels.now l.g 0 ≡ a.l → l.next.gates < 256)
 room c e =
     let l = c.loop-g in
     let fits = order_room c.args.levels.now c.args.n c.args.l l.g c.requires.1 (omega arith) e in
     omega (arith, ap (λ o. o.gates) l.invariant.1)
 
 pub with_net-next-requires : goal.with_net-next-requires
-with_net-next-requires c = (omega arith, room c)
+with_net-next-requires c = (omega arith, room (goal.at.with_net-next-requires c).After-with_net-arg-1)
 
 pub loop-g-preserved : goal.loop-g-preserved
 loop-g-preserved c =
@@ -32,7 +33,7 @@ loop-g-preserved c =
     let xs = order_of c.args.levels.now c.args.n (c.args.l - 1) in
     let so_far = xs ++ row c.args.levels.now l.g c.args.l in
     let level = get_or c.args.levels.now l.g 0 in
-    (omega arith, c.with_net-next.ensures ∙ ordered_more l.next so_far (eqb level c.args.l) l.g l.invariant.1 (λ e. room c.before (eqb-true level c.args.l e)) ∙ ap as_order (sym (row_more c.args.levels.now xs l.g c.args.l)))
+    (omega arith, c.with_net-next.ensures ∙ ordered_more l.next so_far (eqb level c.args.l) l.g l.invariant.1 (λ e. room (goal.at.loop-g-preserved c).After-with_net-arg-1 (eqb-true level c.args.l e)) ∙ ap as_order (sym (row_more c.args.levels.now xs l.g c.args.l)))
 
 pub returns : goal.returns
 returns c =

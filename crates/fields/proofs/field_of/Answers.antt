@@ -14,7 +14,7 @@ rule_of-rule-requires c = omega (arith, c.wide-ty.ensures, c.requires.gates.type
 pub gather-all-requires : goal.gather-all-requires
 gather-all-requires c =
     let g = c.requires.gates in
-    (c.requires.wires, (c.requires.fitting, (g.net, g.pinned, c.rule_of-rule.ensures.0)))
+    record { wires = c.requires.wires; fitting = c.requires.fitting; g_bound = (g.net, g.pinned, c.rule_of-rule.ensures.0) }
 
 pub returns : goal.returns
 returns c =
@@ -22,5 +22,5 @@ returns c =
     let ty = c.wide-ty.ensures in
     let pins = pins_at a.counts.now a.places.now a.g in
     field_made a.words.now a.counts.now a.places.now a.g c.top.result c.rule_of-rule.result.inversion c.wide-ty.result c.gather-all.result c.field.result
-    (λ l. c.requires.gates.single (omega (arith, ty, l))) c.rule_of-rule.ensures.1 c.gather-all.ensures (omega (arith, c.field.type-inv)) c.field.ensures
+    (λ l. c.requires.gates.single (omega (arith, ty, l))) c.rule_of-rule.ensures.1 c.gather-all.ensures (omega (arith, c.field.type_inv)) c.field.ensures
     ∙ ap₂ (λ low k. field_of low k (map (pin_word a.words.now) pins)) c.top.ensures ty

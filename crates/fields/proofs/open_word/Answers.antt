@@ -6,4 +6,4 @@ use borrow.Author.Rules.{rules}
 use Rattle.fields.proofs.open_word.Goals as goal
 
 pub returns : goal.returns
-returns c = is_word 64 _ c.spread.result (omega (arith, c.spread.type-inv)) (λ t l. c.spread.ensures t l ∙ c.open_value.ensures)
+returns c = is_word 64 _ c.spread.result (omega (arith, c.spread.type_inv)) (λ t l. c.spread.ensures t l ∙ c.open_value.ensures)

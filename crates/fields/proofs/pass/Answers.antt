@@ -15,23 +15,24 @@ use Rattle.fields.proofs.Fields.{passed_none, passed_more, own_top}
 use Rattle.fields.proofs.pass.Goals as goal
 
 -- the gate that is read has what a gate needs
-gated : (c : goal.After-wide16-g)
-    → Gates c.args.types.now c.args.counts.now c.wide16-g.result
+gated : (c : tie.After-wide16 invariant-loop decreases-loop)
+    → Gates c.before.before.before.before.args.types.now c.before.before.before.before.args.counts.now c.wide16.result
 gated c =
-    subst (Gates c.args.types.now c.args.counts.now) (sym c.wide16-g.ensures) (c.requires.gates_bound.1 c.loop-i.i c.loop-i-test.true)
+    let s = c.before.before.before.before in
+    subst (Gates s.args.types.now s.args.counts.now) (sym c.wide16.ensures) (s.requires.1.1.0.1 c.before.before.before.loop.i c.before.before.loop-test.true)
 
 pub loop-i-init : goal.loop-i-init
 loop-i-init c = (omega arith, passed_none (tops_of c.args.words.now) c.args.types.now c.args.counts.now c.args.places.now c.args.words.now _ c.requires.words_len)
 
 pub field_of-requires : goal.field_of-requires
 field_of-requires c =
-    record { wires = c.requires.wires; fitting = c.requires.fitting; gates = gated c.before }
+    record { wires = c.requires.wires; fitting = c.requires.fitting; gates = gated (goal.at.field_of-requires c).After-wide16-arg-1 }
 
 pub offset_bounds-words-g : goal.offset_bounds-words-g
-offset_bounds-words-g c = omega (arith, (gated c.before.before).net)
+offset_bounds-words-g c = omega (arith, (gated (goal.at.offset_bounds-words-g c).After-wide16-arg-1).net)
 
 pub bounds-words-g : goal.bounds-words-g
-bounds-words-g c = (gated c.before.before).net
+bounds-words-g c = (gated (goal.at.bounds-words-g c).After-wide16-g).net
 
 pub loop-i-preserved : goal.loop-i-preserved
 loop-i-preserved c =
@@ -41,7 +42,7 @@ loop-i-preserved c =
     let f : ℕ → ℕ = λ k. get_or a.order.now k 0 in
     let g = c.wide16-g.result in
     let e = c.wide16-g.ensures in
-    let own = own_top (tops_of a.words.now) a.types.now a.counts.now a.places.now a.words.now f l.i _ _ (gated c.before.before).net
+    let own = own_top (tops_of a.words.now) a.types.now a.counts.now a.places.now a.words.now f l.i _ _ (gated (goal.at.loop-i-preserved c).After-wide16-g).net
     (λ j b q. c.requires.by_index j l.i b t (q ∙ e)) l.invariant.1 in (
       omega arith,
       passed_more (tops_of a.words.now) a.types.now a.counts.now a.places.now a.words.now a.n c.requires.wires.few c.requires.fitting f l.i (λ j h. (c.requires.gates_bound.1 j (omega arith)).net) _ _ _ e l.invariant.1

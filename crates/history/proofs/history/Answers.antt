@@ -11,39 +11,40 @@ use Rattle.card.proofs.Kept.{few}
 use Rattle.history.proofs.Ran.{holds}
 use Rattle.history.proofs.Histories.{gives_12, gives_18, told}
 use Rattle.history.proofs.history.Goals as goal
+use Rattle.history.proofs.history.Goals.{Else-flags-n}
 
 -- there the session is rested, and has no more nets than the arrays have places
-ready : (c : goal.Else-flags-n) → c.args.t1.rested ≡ true
-ready c = not-false _ c.if-not-s.false-raw
+ready : (c : Else-flags-n) → c.args.t1.rested ≡ true
+ready c = c.if-not-s.false
 
-narrow : (c : goal.Else-flags-n) → c.args.t1.nets ≤ 256
-narrow c = few c.args.t1 (holds c.args.t1 c.requires (ready c))
+narrow : (c : Else-flags-n) → c.args.t1.nets ≤ 256
+narrow c = few c.args.t1 (holds c.args.t1 c.requires ((let it : c.args.t1.rested ≡ true = c.if-not-s.false in it)))
 
 pub returns-then-not-s : goal.returns-then-not-s
-returns-then-not-s c = let a = c.args in sym (gives_12 a.t1 a.words.now a.befores.now a.flags.now (not-true _ c.if-not-s.true-raw))
+returns-then-not-s c = let a = c.args in sym (gives_12 a.t1 a.words.now a.befores.now a.flags.now (c.if-not-s.true)
 
 pub returns-then-words-n : goal.returns-then-words-n
-returns-then-words-n c = let a = c.args in sym (gives_18 a.t1 a.words.now a.befores.now a.flags.now (not-false _ c.if-not-s.false-raw) (inl c.if-words-n.true))
+returns-then-words-n c = let a = c.args in sym (gives_18 a.t1 a.words.now a.befores.now a.flags.now (c.if-not-s.false (inl c.if-words-n.true))
 
 pub returns-then-befores-n : goal.returns-then-befores-n
-returns-then-befores-n c = let a = c.args in sym (gives_18 a.t1 a.words.now a.befores.now a.flags.now (not-false _ c.if-not-s.false-raw) (inr (inl c.if-befores-n.true)))
+returns-then-befores-n c = let a = c.args in sym (gives_18 a.t1 a.words.now a.befores.now a.flags.now (c.if-not-s.false (inr (inl c.if-befores-n.true)))
 
 pub returns-then-flags-n : goal.returns-then-flags-n
-returns-then-flags-n c = let a = c.args in sym (gives_18 a.t1 a.words.now a.befores.now a.flags.now (not-false _ c.if-not-s.false-raw) (inr (inr c.if-flags-n.true)))
+returns-then-flags-n c = let a = c.args in sym (gives_18 a.t1 a.words.now a.befores.now a.flags.now (c.if-not-s.false (inr (inr c.if-flags-n.true)))
 
 pub put_words-requires : goal.put_words-requires
-put_words-requires c = (omega (arith, narrow c.before.before.before), omega (arith, c.if-words-n.false))
+put_words-requires c = (omega (arith, narrow (goal.at.put_words-requires c).Else-flags-n), omega (arith, c.if-words-n.false))
 
 pub put_befores-requires : goal.put_befores-requires
-put_befores-requires c = (omega (arith, narrow c.before.before.before.before.before.before.before.before.before), omega (arith, c.if-befores-n.left))
+put_befores-requires c = (omega (arith, narrow (goal.at.put_befores-requires c).Else-flags-n), omega (arith, c.if-befores-n.left))
 
 pub put_flags-requires : goal.put_flags-requires
 put_flags-requires c =
-    (omega (arith, narrow c.before.before.before.before.before.before.before.before.before.before.before.before.before.before.before.before), omega (arith, c.if-flags-n.left))
+    (omega (arith, narrow (goal.at.put_flags-requires c).Else-flags-n), omega (arith, c.if-flags-n.left))
 
 pub returns : goal.returns
 returns c =
     let a = c.args in
-    told a.t1 a.words.now a.befores.now a.flags.now (ready c.before.before.before.before.before.before.before.before.before.before.before.before.before.before.before.before.before.before.before)
+    told a.t1 a.words.now a.befores.now a.flags.now (ready (goal.at.returns c).Else-flags-n)
     (record { for_words = c.if-words-n.left; for_befores = c.if-befores-n.left; for_flags = c.if-flags-n.left }) _ _ _
     c.put_words.ensures c.put_befores.ensures c.put_flags.ensures

@@ -16,7 +16,7 @@ run_many-count-requires c =
     let asks = many_asks a.s a.vectors.now (length a.words.now) _ (sym c.judge_many-verdict.ensures ∙ c.in-Done.is) in
     let h = c.requires.good.card (c.requires.good.rest asks.0).0 in
     let bytes = (le-div_iff_mul-le (inputs_some a.s h).0).0 (le_of_eq asks.2) in
-    (c.requires.good, ((asks.0, asks.1), (bytes, omega (arith, nets_are a.s h, h.accepted.legible.few), asks.3)))
+    record { good = c.requires.good; rested_value = (asks.0, asks.1); inputs_in_bounds = (bytes, omega (arith, nets_are a.s h, h.accepted.legible.few), asks.3) }
 
 pub keep_many-requires : goal.keep_many-requires
 keep_many-requires c =

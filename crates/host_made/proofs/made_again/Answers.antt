@@ -9,12 +9,13 @@ use Rattle.host_made.specs.Made.{made_loaded}
 use Rattle.host_made.proofs.Making.{again_none, again_long, again_unclear, again_loaded}
 use borrow.Author.Rules.{rules}
 use Rattle.host_made.proofs.made_again.Goals as goal
+use Rattle.host_made.proofs.made_again.Goals.{After-is_clear-2}
 
 -- the length is no longer than a card's, and it is the bytes past it that are looked at
-low : (c : goal.After-is_clear-2) → u16_at c.args.b.now 1 ≤ longest_card
+low : (c : After-is_clear-2) → u16_at c.args.b.now 1 ≤ longest_card
 low c = let e = c.u16_at-len.ensures.0 in rw e at c.if-len-gt-LONGEST_CARD.false
 
-past : (c : goal.After-is_clear-2) → (let b = c.args.b.now in c.is_clear-2.result ≡ clear b (card_at + u16_at b 1) card_to)
+past : (c : After-is_clear-2) → (let b = c.args.b.now in c.is_clear-2.result ≡ clear b (card_at + u16_at b 1) card_to)
 past c = let e = c.u16_at-len.ensures.0 in rw e at c.is_clear-2.ensures
 
 pub returns-then-b-eq0 : goal.returns-then-b-eq0
@@ -31,10 +32,10 @@ returns-then-len-gt-LONGEST_CARD c =
 pub returns-then-not-is_clear : goal.returns-then-not-is_clear
 returns-then-not-is_clear c =
     let b = c.args.b.now in
-    c.broken_session-then-not-is_clear.ensures ∙ again_unclear b c.if-b-eq0.left (low c.before.before) (sym (past c.before.before) ∙ not-true _ c.if-not-is_clear.true-raw)
+    c.broken_session-then-not-is_clear.ensures ∙ again_unclear b c.if-b-eq0.left (low (goal.at.returns-then-not-is_clear c).After-is_clear-2) (sym (past (goal.at.returns-then-not-is_clear c).After-is_clear-2) ∙ c.if-not-is_clear.true
 
 pub returns : goal.returns
 returns c =
     let b = c.args.b.now in
     c.made_loaded.ensures ∙ ap (made_loaded b) c.u16_at-len.ensures.0
-    ∙ again_loaded b c.if-b-eq0.left (low c.before.before) (sym (past c.before.before) ∙ not-false _ c.if-not-is_clear.false-raw)
+    ∙ again_loaded b c.if-b-eq0.left (low (goal.at.returns c).After-is_clear-2) (sym (past (goal.at.returns c).After-is_clear-2) ∙ c.if-not-is_clear.false

@@ -14,9 +14,10 @@ use Rattle.host_made.specs.Made.{made_card}
 use Rattle.host_made.proofs.Making.{few_inputs, loaded_refused, loaded_is}
 use borrow.Author.Rules.{rules}
 use Rattle.host_made.proofs.made_loaded.Goals as goal
+use Rattle.host_made.proofs.made_loaded.Goals.{After-load-left}
 
 -- the bytes that are loaded are the card's part
-loaded : (c : goal.After-load-left) → c.load-left.result ≡ load_of none (part c.args.b.now card_at c.args.len)
+loaded : (c : After-load-left) → c.load-left.result ≡ load_of none (part c.args.b.now card_at c.args.len)
 loaded c = rw (c.empty.ensures, part_of) at c.load-left.ensures
 
 pub made_card-requires : goal.made_card-requires
@@ -24,23 +25,20 @@ made_card-requires c =
     let b = c.args.b.now in
     let card = part b card_at c.args.len in
     let bytes = part_bytes b (λ i. omega (arith, c.shared_slice_known-1.given i)) card_at c.args.len in
-    let e = loaded c.before.before.before in record {
-      good = (
+    let e = loaded (goal.at.made_card-requires c).After-load-left in record { good = (
         subst (λ x. Good x.session) (sym e) (load_good none card none_good bytes),
         subst (λ x. x.session.inputs ≤ 256) (sym e) (few_inputs card bytes _ (sym (ap (λ x. x.answer) e) ∙ c.in-Done.is)),
-      );
-      session_length_in_bounds = c.requires.0;
-    }
+      ); session_length_in_bounds = c.requires.0 }
 
 pub returns-in-Refused : goal.returns-in-Refused
 returns-in-Refused c =
     let a = c.args in
-    let e = loaded c.before.before.before.before in
+    let e = loaded (goal.at.returns-in-Refused c).After-load-left in
     c.broken_session.ensures ∙ loaded_refused a.b.now a.len _ (sym (ap (λ x. x.answer) e) ∙ c.in-Refused.is)
 
 pub returns-in-Done : goal.returns-in-Done
 returns-in-Done c =
     let a = c.args in
-    let e = loaded c.before.before.before.before in
+    let e = loaded (goal.at.returns-in-Done c).After-load-left in
     c.made_card.ensures ∙ ap (λ x. made_card a.b.now x.session) e
     ∙ loaded_is a.b.now a.len _ (sym (ap (λ x. x.answer) e) ∙ c.in-Done.is)

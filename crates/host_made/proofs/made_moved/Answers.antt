@@ -12,16 +12,17 @@ use Rattle.host_made.specs.Made.{made_by, fitting}
 use Rattle.host_made.proofs.Making.{moved_not, moved_refused, moved_is}
 use borrow.Author.Rules.{rules}
 use Rattle.host_made.proofs.made_moved.Goals as goal
+use Rattle.host_made.proofs.made_moved.Goals.{After-rest-rested}
 
 -- the rooms fit, and it is the older vector that it is rested by
-fits : (c : goal.After-rest-rested) → (let a = c.args in fitting a.b.now a.s.inputs a.s.inputs ≡ true)
-fits c = sym c.rooms_fit.ensures ∙ not-false _ c.if-not-rooms_fit.false-raw
+fits : (c : After-rest-rested) → (let a = c.args in fitting a.b.now a.s.inputs a.s.inputs ≡ true)
+fits c = sym c.rooms_fit.ensures ∙ c.if-not-rooms_fit.false
 
-rested : (c : goal.After-rest-rested) → (let a = c.args in c.rest-rested.result ≡ rest_of a.s (part a.b.now older_at a.s.inputs))
+rested : (c : After-rest-rested) → (let a = c.args in c.rest-rested.result ≡ rest_of a.s (part a.b.now older_at a.s.inputs))
 rested c = rw part_of at c.rest-rested.ensures
 
 pub returns-then-not-rooms_fit : goal.returns-then-not-rooms_fit
-returns-then-not-rooms_fit c = let a = c.args in c.broken_session.ensures ∙ moved_not a.b.now a.s a.engine (sym c.rooms_fit.ensures ∙ not-true _ c.if-not-rooms_fit.true-raw)
+returns-then-not-rooms_fit c = let a = c.args in c.broken_session.ensures ∙ moved_not a.b.now a.s a.engine (sym c.rooms_fit.ensures ∙ c.if-not-rooms_fit.true
 
 pub vector_by-requires : goal.vector_by-requires
 vector_by-requires c =
@@ -30,10 +31,10 @@ vector_by-requires c =
 pub returns-in-Refused : goal.returns-in-Refused
 returns-in-Refused c =
     let a = c.args in
-    c.broken_session-in-Refused.ensures ∙ moved_refused a.b.now a.s a.engine (fits c.before.before.before.before) c.rest-rested.result (rested c.before.before.before.before) _ c.in-Refused.is
+    c.broken_session-in-Refused.ensures ∙ moved_refused a.b.now a.s a.engine (fits (goal.at.returns-in-Refused c).After-rest-rested) c.rest-rested.result (rested (goal.at.returns-in-Refused c).After-rest-rested) _ c.in-Refused.is
 
 pub returns-in-Done : goal.returns-in-Done
 returns-in-Done c =
     let a = c.args in
     c.made_by.ensures ∙ ap made_by (rw part_of at c.vector_by.ensures)
-    ∙ moved_is a.b.now a.s a.engine (fits c.before.before.before.before.before.before) c.rest-rested.result (rested c.before.before.before.before.before.before) _ c.in-Done.is
+    ∙ moved_is a.b.now a.s a.engine (fits (goal.at.returns-in-Done c).After-rest-rested) c.rest-rested.result (rested (goal.at.returns-in-Done c).After-rest-rested) _ c.in-Done.is

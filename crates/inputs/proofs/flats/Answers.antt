@@ -24,7 +24,7 @@ loop-n-preserved c =
     let l = c.loop-n in
     let v = c.args.values.now in (
       omega arith,
-      fill_more (flat v) 0 256 l.n l.out c.spread.result (omega arith) l.invariant.1 (is_word 64 (λ t. get_or v l.n false) c.spread.result (omega (arith, c.spread.type-inv)) c.spread.ensures),
+      fill_more (flat v) 0 256 l.n l.out c.spread.result (omega arith) l.invariant.1 (is_word 64 (λ t. get_or v l.n false) c.spread.result (omega (arith, c.spread.type_inv)) c.spread.ensures),
     )
 
 pub returns : goal.returns

@@ -9,9 +9,10 @@ use Rattle.inputs.specs.Inputs.{rank, input_nets}
 use Rattle.inputs.proofs.Vectors.{rank_none, rank_input, rank_other, rank_le}
 use Rattle.inputs.proofs.Nets.{nets_none, nets_input, nets_other}
 use Rattle.inputs.proofs.input_nets.Goals as goal
+use Rattle.inputs.proofs.input_nets.Goals.{Then-kinds-n-eq1}
 
 -- there are not more inputs ahead of a net than nets
-place-there : (c : goal.Then-kinds-n-eq1) → c.loop-n.j < 256
+place-there : (c : Then-kinds-n-eq1) → c.loop-n.j < 256
 place-there c =
     let l = c.loop-n in
     omega (arith, l.invariant.1, c.loop-n-test.true, rank_le c.args.kinds.now l.n)
@@ -20,13 +21,13 @@ pub loop-n-init : goal.loop-n-init
 loop-n-init c = (omega arith, sym (rank_none _), nets_none _)
 
 pub offset_bounds-nets-j : goal.offset_bounds-nets-j
-offset_bounds-nets-j c = let b = place-there c in omega arith
+offset_bounds-nets-j c = let b = place-there (goal.at.offset_bounds-nets-j c).Then-kinds-n-eq1 in omega arith
 
 pub bounds-nets-j : goal.bounds-nets-j
-bounds-nets-j c = place-there c
+bounds-nets-j c = place-there (goal.at.bounds-nets-j c).Then-kinds-n-eq1
 
 pub overflow_add-j : goal.overflow_add-j
-overflow_add-j c = let b = place-there c in omega arith
+overflow_add-j c = let b = place-there (goal.at.overflow_add-j c).Then-kinds-n-eq1 in omega arith
 
 pub loop-n-preserved : goal.loop-n-preserved
 loop-n-preserved c =

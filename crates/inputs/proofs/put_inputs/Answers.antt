@@ -7,34 +7,35 @@ use borrow.Author.Rules.{rules}
 use Rattle.inputs.specs.Inner.Starts.{nets_put, byte_word}
 use Rattle.inputs.proofs.Starts.{put_none, put_more, byte_word_lem}
 use Rattle.inputs.proofs.put_inputs.Goals as goal
+use Rattle.inputs.proofs.put_inputs.Goals.{After-wide16, In-loop-j}
 
 -- there are at most 256 bytes, and each has a net
-place-there : (c : goal.In-loop-j) → c.loop-j.j < 256
+place-there : (c : In-loop-j) → c.loop-j.j < 256
 place-there c = omega (arith, c.loop-j-test.true, c.requires.0)
 
-net-there : (c : goal.After-wide16) → c.wide16.result < 256
+net-there : (c : After-wide16) → c.wide16.result < 256
 net-there c = subst (λ x. x < 256) (sym c.wide16.ensures) (c.requires.1 _)
 
 pub loop-j-init : goal.loop-j-init
 loop-j-init c = (omega arith, put_none _ _ _)
 
 pub offset_bounds-inputs-j : goal.offset_bounds-inputs-j
-offset_bounds-inputs-j c = let b = place-there c.before.before in omega arith
+offset_bounds-inputs-j c = let b = place-there (goal.at.offset_bounds-inputs-j c).In-loop-j in omega arith
 
 pub bounds-inputs-j : goal.bounds-inputs-j
-bounds-inputs-j c = place-there c.before.before
+bounds-inputs-j c = place-there (goal.at.bounds-inputs-j c).In-loop-j
 
 pub offset_bounds-words-wide16 : goal.offset_bounds-words-wide16
-offset_bounds-words-wide16 c = let b = net-there c in omega arith
+offset_bounds-words-wide16 c = let b = net-there (goal.at.offset_bounds-words-wide16 c).After-wide16 in omega arith
 
 pub bounds-words-wide16 : goal.bounds-words-wide16
-bounds-words-wide16 c = net-there c
+bounds-words-wide16 c = net-there (goal.at.bounds-words-wide16 c).After-wide16
 
 pub loop-j-preserved : goal.loop-j-preserved
 loop-j-preserved c =
     let l = c.loop-j in
     let s = c.spread in
-    (omega (arith, c.loop-j-test.true), put_more _ _ _ l.words l.j c.wide16.result s.result c.wide16.ensures (byte_word_lem c.args.v.now l.j s.result (omega (arith, s.type-inv)) s.ensures) l.invariant.1)
+    (omega (arith, c.loop-j-test.true), put_more _ _ _ l.words l.j c.wide16.result s.result c.wide16.ensures (byte_word_lem c.args.v.now l.j s.result (omega (arith, s.type_inv)) s.ensures) l.invariant.1)
 
 pub returns : goal.returns
 returns c =

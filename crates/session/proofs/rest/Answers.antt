@@ -8,7 +8,7 @@ use Rattle.session.proofs.rest.Goals as goal
 pub settle-next-requires : goal.settle-next-requires
 settle-next-requires c =
     let fits = judged_vector c.args.s.loaded c.args.s.inputs c.args.v.now (sym c.judge-verdict.ensures ∙ c.in-Passed.is) in
-    (c.requires, (fits.0, fits.1.size))
+    record { good = c.requires; loaded_value = (fits.0, fits.1.size) }
 
 pub returns-in-Refused : goal.returns-in-Refused
 returns-in-Refused c =

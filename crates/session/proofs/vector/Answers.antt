@@ -8,7 +8,7 @@ use Rattle.session.proofs.vector.Goals as goal
 pub run_fields-next-requires : goal.run_fields-next-requires
 run_fields-next-requires c =
     let fits = judged_vector c.args.s.rested c.args.s.inputs c.args.v.now (sym c.judge-verdict.ensures ∙ c.in-Passed.is) in
-    (c.requires, (fits.0, fits.1.size))
+    record { good = c.requires; rested_value = (fits.0, fits.1.size) }
 
 pub returns-in-Refused : goal.returns-in-Refused
 returns-in-Refused c =

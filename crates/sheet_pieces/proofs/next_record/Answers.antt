@@ -12,40 +12,41 @@ use Rattle.sheet_pieces.proofs.Steps.{hand_back, hand_on}
 use Rattle.sheet_pieces.proofs.Standing.{Placed, entry_placed}
 use borrow.Author.Rules.{rules}
 use Rattle.sheet_pieces.proofs.next_record.Goals as goal
+use Rattle.sheet_pieces.proofs.next_record.Goals.{After-entry_at}
 
 -- the file and the place, and that a rest, or a vector, is whole
-abbrev file : tie.After-entry-at → List ℕ
-file e = e.before.before.args.file.now
+abbrev file : (c : After-entry_at) → List ℕ
+file e = e.args.file.now
 
-abbrev place : tie.After-entry-at → ℕ
-place e = e.before.before.args.sheet.at
+abbrev place : (c : After-entry_at) → ℕ
+place e = e.args.sheet.at
 
-placed : (e : goal.After-entry_at) (x : Entry) → e.entry_at.result ≡ x → Placed (length (file e)) (place e) x
+placed : (e : tie.After-entry-at) (x : Entry) → e.entry_at.result ≡ x → Placed (length (file e)) (place e) x
 placed e x g = subst (Placed (length (file e)) (place e)) (sym e.entry_at.ensures ∙ g) (entry_placed (file e) (place e))
 
-rest-placed : (c : goal.In-Rest)
-    → Placed (length (file c.before.before.before)) (place c.before.before.before) (Rest c.in-Rest.to)
-rest-placed c = placed c.before.before.before _ c.in-Rest.is
+rest-placed : (c : tie.After-known-told2)
+    → Placed (length (file c.before.before.before)) (place c.before.before.before) (Rest c.before.to.given.0.0)
+rest-placed c = placed c.before.before.before _ c.before.to.given.1
 
-vector-placed : (c : goal.In-Vector)
-    → Placed (length (file c.before.before.before)) (place c.before.before.before) (Vector c.in-Vector.to)
-vector-placed c = placed c.before.before.before _ c.in-Vector.is
+vector-placed : (c : tie.After-known-told3)
+    → Placed (length (file c.before.before.before)) (place c.before.before.before) (Vector c.before.to2.given.0.0)
+vector-placed c = placed c.before.before.before _ c.before.to2.given.1
 
 pub overflow_add-from : goal.overflow_add-from
-overflow_add-from c = let p = rest-placed c in search rules
+overflow_add-from c = let p = rest-placed (goal.at.overflow_add-from c).In-Rest in search rules
 
 pub slice_bounds-rest-count : goal.slice_bounds-rest-count
-slice_bounds-rest-count c = (rest-placed c).0
+slice_bounds-rest-count c = (rest-placed (goal.at.slice_bounds-rest-count c).In-Rest).0
 
 pub overflow_add-from-in-Vector : goal.overflow_add-from-in-Vector
-overflow_add-from-in-Vector c = let p = vector-placed c in search rules
+overflow_add-from-in-Vector c = let p = vector-placed (goal.at.overflow_add-from-in-Vector c).In-Vector in search rules
 
 pub slice_bounds-vector-count : goal.slice_bounds-vector-count
-slice_bounds-vector-count c = (vector-placed c).0
+slice_bounds-vector-count c = (vector-placed (goal.at.slice_bounds-vector-count c).In-Vector).0
 
 pub vector-requires : goal.vector-requires
 vector-requires c =
-    record { standing = c.requires.standing; stage_value = (c.requires.stage_value, omega (arith, (vector-placed c.before.before).0)) }
+    record { standing = c.requires.standing; stage_value = (c.requires.stage_value, omega (arith, (vector-placed (goal.at.vector-requires c).In-Vector).0)) }
 
 pub returns-in-Nothing : goal.returns-in-Nothing
 returns-in-Nothing c =

@@ -9,14 +9,14 @@ use borrow.Author.Rules.{rules}
 use Rattle.sheet_pieces.proofs.open_card.Goals as goal
 
 -- there the piece is what load's answer makes it
-loads : (l : goal.After-load-loaded)
-    → loaded_piece l.args.sheet l.card_end-at.result l.load-loaded.result
-    ≡ card_piece l.args.sheet l.args.file.now
+loads : (l : tie.After-load)
+    → loaded_piece (entry l).args.sheet l.before.before.before.card-end.result l.load.result
+    ≡ card_piece (entry l).args.sheet (entry l).args.file.now
 loads l =
-    let a = l.args in
-    card_loads a.sheet a.file.now l.empty.result l.card_end-at.result l.load-loaded.result
-    l.if-file-gt65536.false l.empty.ensures
-    l.card_end-at.ensures.0 l.load-loaded.ensures
+    let a = (entry l).args in
+    card_loads a.sheet a.file.now l.before.before.empty.result l.before.before.before.card-end.result l.load.result
+    l.before.before.before.before.if1.false l.before.before.empty.ensures
+    l.before.before.before.card-end.ensures.0 l.load.ensures
 
 pub returns-then-file-gt65536 : goal.returns-then-file-gt65536
 returns-then-file-gt65536 c =
@@ -38,10 +38,10 @@ taken-requires c =
 pub returns-in-Refused : goal.returns-in-Refused
 returns-in-Refused c =
     let a = c.args in
-    hand_on a.out.now (refused_so c.load-loaded.result.answer a.sheet _ _ c.in-Refused.is ∙ loads c.before.before.before.before.before.before)
+    hand_on a.out.now (refused_so c.load-loaded.result.answer a.sheet _ _ c.in-Refused.is ∙ loads (goal.at.returns-in-Refused c).After-load-loaded)
     c.refused-in-Refused.ensures
 
 pub returns-in-Done : goal.returns-in-Done
 returns-in-Done c =
     let a = c.args in
-    hand_on a.out.now (done_so c.load-loaded.result.answer a.sheet _ _ c.in-Done.is ∙ loads c.before.before.before.before.before) c.taken.ensures
+    hand_on a.out.now (done_so c.load-loaded.result.answer a.sheet _ _ c.in-Done.is ∙ loads (goal.at.returns-in-Done c).After-load-loaded) c.taken.ensures

@@ -11,45 +11,46 @@ use Rattle.step_list.proofs.Cards.{list_asked, list_held, list_total, list_few}
 use Rattle.step_list.proofs.Answers.{list_none, list_short_nets, list_short_times, list_full}
 use borrow.Author.Rules.{rules}
 use Rattle.step_list.proofs.list.Goals as goal
+use Rattle.step_list.proofs.list.Goals.{After-put_list-total, Else-not-s}
 
-loaded : (c : goal.Else-not-s) → c.args.t1.loaded ≡ true
-loaded c = not-false _ c.if-not-s.false-raw
+loaded : (c : Else-not-s) → c.args.t1.loaded ≡ true
+loaded c = c.if-not-s.false
 
-card : (c : goal.Else-not-s) → HasCard c.args.t1
-card c = c.requires.card (loaded c)
+card : (c : Else-not-s) → HasCard c.args.t1
+card c = c.requires.card ((let it : c.args.t1.loaded ≡ true = c.if-not-s.false in it))
 
 -- the list that is put has as many entries as the card has steps
-size : (c : goal.After-put_list-total) → c.put_list-total.result ≡ length (step_list (card_of c.args.t1))
-size c = list_total c.args.t1 (card c.before.before.before.before.before.before) c.put_list-total.ensures
+size : (c : After-put_list-total) → c.put_list-total.result ≡ length (step_list (card_of c.args.t1))
+size c = list_total c.args.t1 ((let it : HasCard c.args.t1 = c.requires.card ((let it : c.args.t1.loaded ≡ true = c.if-not-s.false in it)) in it)) c.put_list-total.ensures
 
-few : (c : goal.After-put_list-total) → c.put_list-total.result ≤ 4096
-few c = list_few c.args.t1 (card c.before.before.before.before.before.before) c.put_list-total.ensures
+few : (c : After-put_list-total) → c.put_list-total.result ≤ 4096
+few c = list_few c.args.t1 ((let it : HasCard c.args.t1 = c.requires.card ((let it : c.args.t1.loaded ≡ true = c.if-not-s.false in it)) in it)) c.put_list-total.ensures
 
 pub returns-then-not-s : goal.returns-then-not-s
-returns-then-not-s c = let a = c.args in list_none a.t1 a.nets.now a.times.now (not-true _ c.if-not-s.true-raw)
+returns-then-not-s c = let a = c.args in list_none a.t1 a.nets.now a.times.now (c.if-not-s.true
 
 pub put_list-total-requires : goal.put_list-total-requires
 put_list-total-requires c =
-    (list_asked c.args.t1 (card c.before.before.before.before.before), search rules)
+    record { gates_bound = list_asked c.args.t1 (card (goal.at.put_list-total-requires c).Else-not-s); nets_len = search rules }
 
 pub returns-then-nets-total : goal.returns-then-nets-total
 returns-then-nets-total c =
     let a = c.args in
-    list_short_nets a.t1 a.nets.now a.times.now (loaded c.before.before.before.before.before.before.before) c.put_list-total.result (size c.before) c.if-nets-total.true
+    list_short_nets a.t1 a.nets.now a.times.now (loaded (goal.at.returns-then-nets-total c).Else-not-s) c.put_list-total.result (size (goal.at.returns-then-nets-total c).After-put_list-total) c.if-nets-total.true
 
 pub returns-then-times-total : goal.returns-then-times-total
 returns-then-times-total c =
     let a = c.args in
-    list_short_times a.t1 a.nets.now a.times.now (loaded c.before.before.before.before.before.before.before.before) c.put_list-total.result (size c.before.before) c.if-nets-total.false c.if-times-total.true
+    list_short_times a.t1 a.nets.now a.times.now (loaded (goal.at.returns-then-times-total c).Else-not-s) c.put_list-total.result (size (goal.at.returns-then-times-total c).After-put_list-total) c.if-nets-total.false c.if-times-total.true
 
 pub copy_nets-requires : goal.copy_nets-requires
-copy_nets-requires c = (few c.before.before.before.before, c.if-nets-total.false)
+copy_nets-requires c = (few (goal.at.copy_nets-requires c).After-put_list-total, c.if-nets-total.false)
 
 pub copy_times-requires : goal.copy_times-requires
-copy_times-requires c = (few c.before.before.before.before.before.before.before.before.before, c.if-times-total.left)
+copy_times-requires c = (few (goal.at.copy_times-requires c).After-put_list-total, c.if-times-total.left)
 
 pub returns : goal.returns
 returns c =
     let a = c.args in
-    list_full a.t1 a.nets.now a.times.now (loaded c.before.before.before.before.before.before.before.before.before.before.before.before.before.before.before.before.before.before) c.put_list-total.result (list_held a.t1 (card c.before.before.before.before.before.before.before.before.before.before.before.before.before.before.before.before.before.before) c.put_list-total.ensures)
-    (search rules) (search rules) (few c.before.before.before.before.before.before.before.before.before.before.before.before) c.if-nets-total.left c.if-times-total.left _ _ c.copy_nets.ensures c.copy_times.ensures
+    list_full a.t1 a.nets.now a.times.now (loaded (goal.at.returns c).Else-not-s) c.put_list-total.result (list_held a.t1 (card (goal.at.returns c).Else-not-s) c.put_list-total.ensures)
+    (search rules) (search rules) (few (goal.at.returns c).After-put_list-total) c.if-nets-total.left c.if-times-total.left _ _ c.copy_nets.ensures c.copy_times.ensures

@@ -9,9 +9,10 @@ use Rattle.step_list.specs.Inner.Listing.{times_in, steps_in, gates_in, Holds}
 use Rattle.step_list.proofs.Lists.{hold_none, hold_same, steps_none, steps_more, steps_room}
 use borrow.Author.Rules.{rules}
 use Rattle.step_list.proofs.put_list.Goals as goal
+use Rattle.step_list.proofs.put_list.Goals.{After-wide16-g}
 
 -- the gate that is read is a net
-below : (c : goal.After-wide16-g) → c.wide16-g.result < 256
+below : (c : After-wide16-g) → c.wide16-g.result < 256
 below c = let e = c.wide16-g.ensures in omega (arith, c.requires.gates_bound.1 c.loop-i.i)
 
 pub loop-i-init : goal.loop-i-init
@@ -20,16 +21,16 @@ loop-i-init c =
     (omega arith, hold_same (sym (steps_none a.sets.now a.order.now)) (hold_none a.nets.now a.times.now))
 
 pub offset_bounds-sets-g : goal.offset_bounds-sets-g
-offset_bounds-sets-g c = omega (arith, below c.before.before)
+offset_bounds-sets-g c = omega (arith, below (goal.at.offset_bounds-sets-g c).After-wide16-g)
 
 pub bounds-sets-g : goal.bounds-sets-g
-bounds-sets-g c = omega (arith, below c.before.before)
+bounds-sets-g c = omega (arith, below (goal.at.bounds-sets-g c).After-wide16-g)
 
 pub put_net-next-requires : goal.put_net-next-requires
 put_net-next-requires c =
     let l = c.loop-i in
     let g = c.wide16-g.ensures in
-    (below c.before.before.before, rw g (omega (arith, l.invariant.1.size, c.requires.gates_bound.2, steps_room c.args.sets.now c.args.order.now l.i c.args.gates (omega arith))))
+    (below (goal.at.put_net-next-requires c).After-wide16-g, rw g (omega (arith, l.invariant.1.size, c.requires.gates_bound.2, steps_room c.args.sets.now c.args.order.now l.i c.args.gates (omega arith))))
 
 pub loop-i-preserved : goal.loop-i-preserved
 loop-i-preserved c =

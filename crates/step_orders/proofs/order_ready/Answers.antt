@@ -9,37 +9,40 @@ use borrow.Author.Tests.{not-true, not-false}
 use Rattle.step_orders.specs.Inner.Ready.{StepEntry, order_steps, ready_in}
 use Rattle.step_orders.proofs.Marking.{ready_stop, ready_turn, ready_end}
 use Rattle.step_orders.proofs.order_ready.Goals as goal
+use Rattle.step_orders.proofs.order_ready.Goals.{After-narrow-t, After-wide16-e, Else-not-reads_done}
 
 -- the entry that is reached
-entry : (c : goal.After-wide16-e) → StepEntry c.args.nets.now c.args.times.now c.wide16-e.result
+entry : (c : After-wide16-e) → StepEntry c.args.nets.now c.args.times.now c.wide16-e.result
 entry c =
     subst (StepEntry c.args.nets.now c.args.times.now) (sym c.wide16-e.ensures)
     (c.requires.by_index c.loop-i.i c.loop-i-test.true)
 
-net-is : (c : goal.After-narrow-t) → c.wide16-g.result ≡ get_or c.args.nets.now (get_or c.args.order.now c.loop-i.i 0) 0
+net-is : (c : After-narrow-t) → c.wide16-g.result ≡ get_or c.args.nets.now (get_or c.args.order.now c.loop-i.i 0) 0
 net-is c = c.wide16-g.ensures ∙ ap (λ e. get_or c.args.nets.now e 0) c.wide16-e.ensures
 
-time-is : (c : goal.After-narrow-t) → c.narrow-t.result ≡ get_or c.args.times.now (get_or c.args.order.now c.loop-i.i 0) 0
+time-is : (c : After-narrow-t) → c.narrow-t.result ≡ get_or c.args.times.now (get_or c.args.order.now c.loop-i.i 0) 0
 time-is c = c.narrow-t.ensures ∙ ap (λ e. get_or c.args.times.now e 0) c.wide16-e.ensures
 
-placed : (c : goal.Else-not-reads_done) → c.wide16-g.result < 256
-placed c = let g = c.wide16-g.ensures in omega (arith, (entry c.before.before.before.before.before.before.before).net)
+placed : (c : Else-not-reads_done) → c.wide16-g.result < 256
+placed c =
+    let g = c.wide16-g.ensures in omega (arith, ((let it : StepEntry c.args.nets.now c.args.times.now c.wide16-e.result = subst (StepEntry c.args.nets.now c.args.times.now) (sym c.wide16-e.ensures)
+    (c.requires.by_index c.loop-i.i c.loop-i-test.true) in it)).net)
 
 pub loop-i-init : goal.loop-i-init
 loop-i-init c = (omega arith, refl)
 
 pub offset_bounds-nets-e : goal.offset_bounds-nets-e
-offset_bounds-nets-e c = let h = entry c in search rules
+offset_bounds-nets-e c = let h = entry (goal.at.offset_bounds-nets-e c).After-wide16-e in search rules
 
 pub bounds-nets-e : goal.bounds-nets-e
-bounds-nets-e c = (entry c).number
+bounds-nets-e c = (entry (goal.at.bounds-nets-e c).After-wide16-e).number
 
 pub bounds-times-e : goal.bounds-times-e
-bounds-times-e c = (entry c.before.before).number
+bounds-times-e c = (entry (goal.at.bounds-times-e c).After-wide16-e).number
 
 pub reads_done-requires : goal.reads_done-requires
 reads_done-requires c =
-    let e = entry c.before.before.before.before.before in
+    let e = entry (goal.at.reads_done-requires c).After-wide16-e in
     let g = c.wide16-g.ensures in
     let t = c.narrow-t.ensures in
     record { wires = c.requires.wires; fitting = c.requires.fitting; g_bound = (omega (arith, e.net), omega (arith, e.time.late)) }
@@ -49,23 +52,23 @@ returns-then-not-reads_done c =
     let a = c.args in
     let l = c.loop-i in
     sym (l.inv.1
-    ∙ ready_stop a.counts.now a.places.now a.sets.now a.nets.now a.times.now a.order.now l.done l.i c.wide16-g.result c.narrow-t.result (omega arith) (net-is c.before.before.before) (time-is c.before.before.before)
-    (sym c.reads_done.ensures ∙ not-true _ c.if-not-reads_done.true-raw))
+    ∙ ready_stop a.counts.now a.places.now a.sets.now a.nets.now a.times.now a.order.now l.done l.i c.wide16-g.result c.narrow-t.result (omega arith) (net-is (goal.at.returns-then-not-reads_done c).After-narrow-t) (time-is (goal.at.returns-then-not-reads_done c).After-narrow-t)
+    (sym c.reads_done.ensures ∙ c.if-not-reads_done.true)
 
 pub offset_bounds-done-g : goal.offset_bounds-done-g
-offset_bounds-done-g c = let h = placed c in search rules
+offset_bounds-done-g c = let h = placed (goal.at.offset_bounds-done-g c).Else-not-reads_done in search rules
 
 pub bounds-done-g : goal.bounds-done-g
-bounds-done-g c = placed c
+bounds-done-g c = placed (goal.at.bounds-done-g c).Else-not-reads_done
 
 pub put-requires : goal.put-requires
-put-requires c = let t = c.narrow-t.ensures in omega (arith, (entry c.before.before.before.before.before.before.before).time.low)
+put-requires c = let t = c.narrow-t.ensures in omega (arith, (entry (goal.at.put-requires c).After-wide16-e).time.low)
 
 pub offset_bounds-done-g-in-loop-i : goal.offset_bounds-done-g-in-loop-i
-offset_bounds-done-g-in-loop-i c = let h = placed c.before in search rules
+offset_bounds-done-g-in-loop-i c = let h = placed (goal.at.offset_bounds-done-g-in-loop-i c).Else-not-reads_done in search rules
 
 pub bounds-done-g-in-loop-i : goal.bounds-done-g-in-loop-i
-bounds-done-g-in-loop-i c = placed c.before
+bounds-done-g-in-loop-i c = placed (goal.at.bounds-done-g-in-loop-i c).Else-not-reads_done
 
 pub loop-i-preserved : goal.loop-i-preserved
 loop-i-preserved c =
@@ -73,8 +76,8 @@ loop-i-preserved c =
     let l = c.loop-i in (
       omega arith,
       l.inv.1
-          ∙ ready_turn a.counts.now a.places.now a.sets.now a.nets.now a.times.now a.order.now l.done l.i c.wide16-g.result c.narrow-t.result (omega arith) (net-is c.before.before.before.before) (time-is c.before.before.before.before)
-          c.put.result (sym c.reads_done.ensures ∙ not-false _ c.if-not-reads_done.false-raw) (omega (arith, c.put.type-inv)) c.put.ensures,
+          ∙ ready_turn a.counts.now a.places.now a.sets.now a.nets.now a.times.now a.order.now l.done l.i c.wide16-g.result c.narrow-t.result (omega arith) (net-is (goal.at.loop-i-preserved c).After-narrow-t) (time-is (goal.at.loop-i-preserved c).After-narrow-t)
+          c.put.result (sym c.reads_done.ensures ∙ c.if-not-reads_done.false (omega (arith, c.put.type_inv)) c.put.ensures,
     )
 
 pub returns : goal.returns

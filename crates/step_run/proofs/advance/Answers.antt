@@ -9,19 +9,20 @@ use Rattle.step_list.specs.Inner.Listing.{steps_named}
 use Rattle.step_run.specs.Runs.{Ran, ran}
 use Rattle.step_run.specs.Inner.Runs.{stepped}
 use Rattle.step_run.proofs.advance.Goals as goal
+use Rattle.step_run.proofs.advance.Goals.{After-start-vars}
 
-started : (c : goal.After-start-vars) → c.start-vars.result ≡ (let a = c.args in start_in (tops_of a.words.now) a.feeds.now a.v.now)
+started : (c : After-start-vars) → c.start-vars.result ≡ (let a = c.args in start_in (tops_of a.words.now) a.feeds.now a.v.now)
 started c = let a = c.args in c.start-vars.ensures ∙ ap (λ b. start_in b a.feeds.now a.v.now) c.tops-before.ensures
 
 pub run_list-count-requires : goal.run_list-count-requires
 run_list-count-requires c =
-    (c.requires.wires, (c.requires.fitting, ((c.requires.total_bound.0, subst Words (sym (started c.before)) (start_words _ _ _)), c.requires.doable)))
+    record { wires = c.requires.wires; fitting = c.requires.fitting; total_bound = (c.requires.total_bound.0, subst Words (sym (started (goal.at.run_list-count-requires c).After-start-vars)) (start_words _ _ _)); doable = c.requires.doable }
 
 pub returns : goal.returns
 unfolding stepped
 returns c =
     let a = c.args in
     let ks = steps_named a.nets.now a.times.now a.total in
-    let along = c.run_list-count.ensures ∙ ap (λ vars. ran a.types.now a.counts.now a.places.now a.sets.now vars ks) (started c.before.before.before.before) in
+    let along = c.run_list-count.ensures ∙ ap (λ vars. ran a.types.now a.counts.now a.places.now a.sets.now vars ks) (started (goal.at.returns c).After-start-vars) in
     ap (λ ws. record { words = ws; count = c.run_list-count.result }) c.histories_from-next.ensures
     ∙ ap (λ (x : Ran). record { words = histories_from a.sets.now x.words; count = x.count }) along

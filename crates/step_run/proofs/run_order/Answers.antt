@@ -12,9 +12,10 @@ use Rattle.step_run.specs.Inner.Runs.{ordered_steps}
 use Rattle.step_run.proofs.Runs.{doable_at, ran_none, ran_more}
 use borrow.Author.Rules.{rules}
 use Rattle.step_run.proofs.run_order.Goals as goal
+use Rattle.step_run.proofs.run_order.Goals.{After-wide16-e}
 
 -- the entry that is read is a place of the list
-below : (c : goal.After-wide16-e) → c.wide16-e.result < 4096
+below : (c : After-wide16-e) → c.wide16-e.result < 4096
 below c =
     let e = c.wide16-e.ensures in
     omega (arith, c.requires.k_in_bounds.1 c.loop-i.i c.loop-i-test.true)
@@ -25,13 +26,13 @@ loop-i-init c =
     (omega arith, c.requires.k_in_bounds.2, ran_none a.types.now a.counts.now a.places.now a.sets.now a.vars.now (λ i. numbered_step a.nets.now a.times.now (get_or a.order.now i 0)))
 
 pub offset_bounds-nets-e : goal.offset_bounds-nets-e
-offset_bounds-nets-e c = omega (arith, below c.before)
+offset_bounds-nets-e c = omega (arith, below (goal.at.offset_bounds-nets-e c).After-wide16-e)
 
 pub bounds-nets-e : goal.bounds-nets-e
-bounds-nets-e c = omega (arith, below c.before)
+bounds-nets-e c = omega (arith, below (goal.at.bounds-nets-e c).After-wide16-e)
 
 pub bounds-times-e : goal.bounds-times-e
-bounds-times-e c = omega (arith, below c.before.before.before)
+bounds-times-e c = omega (arith, below (goal.at.bounds-times-e c).After-wide16-e)
 
 pub step-requires : goal.step-requires
 step-requires c =

@@ -5,19 +5,20 @@ use Rattle.rule.proofs.Nets.{open_is}
 use Rattle.step_vars.proofs.Pins.{pin_names, read_open, read_net}
 use borrow.Author.Rules.{rules}
 use Rattle.step_vars.proofs.read_at.Goals as goal
+use Rattle.step_vars.proofs.read_at.Goals.{After-wide16-n}
 
 -- a pin that is not open names a net
-below : (c : goal.After-wide16-n) → c.wide16-n.result < 256
+below : (c : After-wide16-n) → c.wide16-n.result < 256
 below c = pin_names c.args.p c.wide16-n.result c.requires.1 (λ q. c.if-p-eq-OPEN.false (q ∙ open_is)) c.wide16-n.ensures
 
 pub returns-then-p-eq-OPEN : goal.returns-then-p-eq-OPEN
 returns-then-p-eq-OPEN c = let a = c.args in read_open a.loose a.words.now a.sets.now a.t a.p (c.if-p-eq-OPEN.true ∙ sym open_is)
 
 pub bounds-sets-n : goal.bounds-sets-n
-bounds-sets-n c = below c
+bounds-sets-n c = below (goal.at.bounds-sets-n c).After-wide16-n
 
 pub bounds-words-n : goal.bounds-words-n
-bounds-words-n c = below c.before
+bounds-words-n c = below (goal.at.bounds-words-n c).After-wide16-n
 
 pub largest_below-requires : goal.largest_below-requires
 largest_below-requires c = c.requires.0

@@ -9,7 +9,7 @@ pub rule_of-rule-requires : goal.rule_of-rule-requires
 rule_of-rule-requires c = omega (arith, c.wide-ty.ensures, c.requires.gates.type)
 
 pub gather-all-requires : goal.gather-all-requires
-gather-all-requires c = (c.requires.wires, (c.requires.fitting, (c.requires.gates.net, c.requires.gates.pinned, c.rule_of-rule.ensures.0, c.requires.step_time.0.late)))
+gather-all-requires c = record { wires = c.requires.wires; fitting = c.requires.fitting; g_bound = (c.requires.gates.net, c.requires.gates.pinned, c.rule_of-rule.ensures.0, c.requires.step_time.0.late) }
 
 pub returns : goal.returns
 returns c =
@@ -21,4 +21,4 @@ returns c =
     step_made a.types.now a.counts.now a.places.now a.sets.now a.vars.now a.g a.t
     c.put.result b.result c.requires.gates.net c.requires.step_time.1
     (value_made a.vars.now a.counts.now a.places.now a.sets.now a.g a.t a.types.now ty.result rule.result.inversion all.result b.result c.requires.gates ty.ensures rule.ensures.1 all.ensures b.ensures)
-    (omega (arith, c.put.type-inv)) c.put.ensures
+    (omega (arith, c.put.type_inv)) c.put.ensures

@@ -13,47 +13,48 @@ use Rattle.history.proofs.Ran.{holds}
 use Rattle.trace.proofs.Moved.{session_caused}
 use Rattle.trace.proofs.Traces.{gives_12, gives_13, gives_14, gives_18, changed_then_lem, late_then, traced}
 use Rattle.trace.proofs.trace.Goals as goal
+use Rattle.trace.proofs.trace.Goals.{Else-not-moved_at, Else-t-gt63}
 
 -- there the session is rested, and the net is a place of the arrays
-ready : (c : goal.Else-t-gt63) → c.args.t1.rested ≡ true
-ready c = not-false _ c.if-not-s.false-raw
+ready : (c : Else-t-gt63) → c.args.t1.rested ≡ true
+ready c = c.if-not-s.false
 
-placed : (c : goal.Else-t-gt63) → c.args.n < 256
-placed c = omega (arith, few c.args.t1 (holds c.args.t1 c.requires (ready c)))
+placed : (c : Else-t-gt63) → c.args.n < 256
+placed c = omega (arith, few c.args.t1 (holds c.args.t1 c.requires ((let it : c.args.t1.rested ≡ true = c.if-not-s.false in it))))
 
-changed : (c : goal.Else-not-moved_at) → let a = c.args in moved_at a.t1.before a.t1.words a.n a.t ≡ true
-changed c = sym c.moved_at.ensures ∙ not-false _ c.if-not-moved_at.false-raw
+changed : (c : Else-not-moved_at) → let a = c.args in moved_at a.t1.before a.t1.words a.n a.t ≡ true
+changed c = sym c.moved_at.ensures ∙ c.if-not-moved_at.false
 
 pub returns-then-not-s : goal.returns-then-not-s
-returns-then-not-s c = let a = c.args in sym (gives_12 a.t1 a.n a.t a.room.now (not-true _ c.if-not-s.true-raw))
+returns-then-not-s c = let a = c.args in sym (gives_12 a.t1 a.n a.t a.room.now (c.if-not-s.true)
 
 pub returns-then-s-n : goal.returns-then-s-n
-returns-then-s-n c = let a = c.args in sym (gives_13 a.t1 a.n a.t a.room.now (not-false _ c.if-not-s.false-raw) c.if-s-n.true)
+returns-then-s-n c = let a = c.args in sym (gives_13 a.t1 a.n a.t a.room.now (c.if-not-s.false c.if-s-n.true)
 
 pub returns-then-t-gt63 : goal.returns-then-t-gt63
 returns-then-t-gt63 c =
     let a = c.args in
-    sym (gives_14 a.t1 a.n a.t a.room.now (not-false _ c.if-not-s.false-raw) (omega arith) (late_then a.t1 a.n a.t (omega arith)))
+    sym (gives_14 a.t1 a.n a.t a.room.now (c.if-not-s.false (omega arith) (late_then a.t1 a.n a.t (omega arith)))
 
 pub moved_at-requires : goal.moved_at-requires
-moved_at-requires c = (placed c.before.before.before, omega arith)
+moved_at-requires c = (placed (goal.at.moved_at-requires c).Else-t-gt63, omega arith)
 
 pub returns-then-not-moved_at : goal.returns-then-not-moved_at
 returns-then-not-moved_at c =
     let a = c.args in
-    sym (gives_14 a.t1 a.n a.t a.room.now (ready c.before.before.before.before.before) (omega arith) (changed_then_lem a.t1 a.n a.t (omega arith) false (sym c.moved_at.ensures ∙ not-true _ c.if-not-moved_at.true-raw)))
+    sym (gives_14 a.t1 a.n a.t a.room.now (ready (goal.at.returns-then-not-moved_at c).Else-t-gt63) (omega arith) (changed_then_lem a.t1 a.n a.t (omega arith) false (sym c.moved_at.ensures ∙ c.if-not-moved_at.true))
 
 pub returns-then-room-length : goal.returns-then-room-length
 returns-then-room-length c =
     let a = c.args in
-    sym (gives_18 a.t1 a.n a.t a.room.now (ready c.before.before.before.before.before.before) (omega arith) (changed_then_lem a.t1 a.n a.t (omega arith) true (changed c.before)) (omega arith))
+    sym (gives_18 a.t1 a.n a.t a.room.now (ready (goal.at.returns-then-room-length c).Else-t-gt63) (omega arith) (changed_then_lem a.t1 a.n a.t (omega arith) true (changed (goal.at.returns-then-room-length c).Else-not-moved_at)) (omega arith))
 
 pub net_cause-requires : goal.net_cause-requires
 net_cause-requires c =
-    record { caused = session_caused c.args.t1 (holds c.args.t1 c.requires (ready c.before.before.before.before.before.before.before.before.before.before.before.before)) (c.requires.rest (ready c.before.before.before.before.before.before.before.before.before.before.before.before)).1; n_bound = (placed c.before.before.before.before.before.before.before.before.before.before.before.before, omega (arith, c.if-t-gt63.left), changed c.before.before.before.before.before.before.before, omega (arith, c.if-room-length.left)) }
+    record { caused = session_caused c.args.t1 (holds c.args.t1 c.requires (ready (goal.at.net_cause-requires c).Else-t-gt63)) (c.requires.rest (ready (goal.at.net_cause-requires c).Else-t-gt63)).1; n_bound = (placed (goal.at.net_cause-requires c).Else-t-gt63, omega (arith, c.if-t-gt63.left), changed (goal.at.net_cause-requires c).Else-not-moved_at, omega (arith, c.if-room-length.left)) }
 
 pub returns : goal.returns
 returns c =
     let a = c.args in
-    traced a.t1 a.n a.t a.room.now (ready c.before.before.before.before.before.before.before.before.before.before.before.before.before.before.before) (omega (arith, c.if-s-n.left)) (changed_then_lem a.t1 a.n a.t (omega (arith, c.if-t-gt63.left)) true (changed c.before.before.before.before.before.before.before.before.before.before))
-    (omega (arith, c.if-room-length.left)) _ (c.net_cause.ensures (card_of a.t1) (card_pins a.t1 (holds a.t1 c.requires (ready c.before.before.before.before.before.before.before.before.before.before.before.before.before.before.before))))
+    traced a.t1 a.n a.t a.room.now (ready (goal.at.returns c).Else-t-gt63) (omega (arith, c.if-s-n.left)) (changed_then_lem a.t1 a.n a.t (omega (arith, c.if-t-gt63.left)) true (changed (goal.at.returns c).Else-not-moved_at))
+    (omega (arith, c.if-room-length.left)) _ (c.net_cause.ensures (card_of a.t1) (card_pins a.t1 (holds a.t1 c.requires (ready (goal.at.returns c).Else-t-gt63))))

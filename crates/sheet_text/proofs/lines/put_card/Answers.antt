@@ -10,6 +10,7 @@ use Rattle.sheet_text.specs.Lines.{blank, lf, first_line, card_text}
 use Rattle.sheet_text.proofs.Lengths.{word_short}
 use borrow.Author.Rules.{rules}
 use Rattle.sheet_text.proofs.lines.put_card.Goals as goal
+use Rattle.sheet_text.proofs.lines.put_card.Goals.{After-steps_of}
 
 pub put_named-end-requires : goal.put_named-end-requires
 put_named-end-requires c = omega (arith, word_short c.args.depth blank (omega arith))
@@ -18,7 +19,7 @@ pub steps_of-requires : goal.steps_of-requires
 steps_of-requires c l = c.requires.has_card
 
 -- the number is the card's
-steps-are : (c : goal.After-steps_of) → (let s = c.args.s in c.steps_of.result ≡ length (step_list (card_of s)))
+steps-are : (c : After-steps_of) → (let s = c.args.s in c.steps_of.result ≡ length (step_list (card_of s)))
 steps-are c = c.steps_of.ensures ∙ steps_loaded c.args.s (loaded_is c.args.s c.requires.has_card)
 
 pub put_named-requires : goal.put_named-requires
@@ -31,7 +32,7 @@ put_named-requires c =
       word_short c.steps_of.result lf
           (omega (
             arith,
-            steps-are c,
+            steps-are (goal.at.put_named-requires c).After-steps_of,
             card_steps c.args.s
                 c.requires.has_card,
           )),
@@ -40,5 +41,5 @@ put_named-requires c =
 pub returns : goal.returns
 unfolding card_text first_line
 returns c =
-    put_same (ap₂ first_line c.requires.depth_value (steps-are c.before))
+    put_same (ap₂ first_line c.requires.depth_value (steps-are (goal.at.returns c).After-steps_of))
     (put_then c.put_named-end.ensures c.put_named.ensures)
