@@ -14,19 +14,19 @@ use Rattle.card.proofs.ask_net.Goals.{After-gates_back-levels}
 placed : (c : After-gates_back-levels) → c.args.n < 256
 placed c =
     let s = c.args.t1 in
-    let h = c.requires (c.if-not-s.false in
+    let h = c.requires (c.if-not-s.false) in
     let few = (card_fits s h).fits.few in
     omega (arith, nets_are s h)
 
 pub returns-then-not-s : goal.returns-then-not-s
-returns-then-not-s c = asked_none c.args.t1 c.args.n (c.if-not-s.true
+returns-then-not-s c = asked_none c.args.t1 c.args.n (c.if-not-s.true)
 
 pub returns-then-nets-n : goal.returns-then-nets-n
-returns-then-nets-n c = asked_past c.args.t1 c.args.n (c.if-not-s.false c.if-nets-n.true
+returns-then-nets-n c = asked_past c.args.t1 c.args.n (c.if-not-s.false) c.if-nets-n.true
 
 pub gates_back-levels-requires : goal.gates_back-levels-requires
 gates_back-levels-requires c =
-    let h = c.requires (c.if-not-s.false in
+    let h = c.requires (c.if-not-s.false) in
     record { wires = card_wires c.args.t1 h; fitting = card_fitting c.args.t1 h }
 
 pub offset_bounds-levels-at : goal.offset_bounds-levels-at

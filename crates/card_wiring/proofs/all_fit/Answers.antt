@@ -20,12 +20,12 @@ loop-g-init c = (omega arith, refl)
 pub returns-then-not-net_fits : goal.returns-then-not-net_fits
 returns-then-not-net_fits c =
     let g = c.loop-g.g in
-    sym (every_no (λ (h : ℕ). every (pin_fits c.args.n) (pins_at c.args.counts.now c.args.places.now h)) (from 0 c.args.n) g (in_from 0 c.args.n g (omega arith) (omega arith)) (sym c.net_fits.ensures ∙ c.if-not-net_fits.true)
+    sym (every_no (λ (h : ℕ). every (pin_fits c.args.n) (pins_at c.args.counts.now c.args.places.now h)) (from 0 c.args.n) g (in_from 0 c.args.n g (omega arith) (omega arith)) (sym c.net_fits.ensures ∙ c.if-not-net_fits.true))
 
 pub loop-g-preserved : goal.loop-g-preserved
 loop-g-preserved c =
     let l = c.loop-g in
-    (omega arith, every_net_more (λ (h : ℕ). every (pin_fits c.args.n) (pins_at c.args.counts.now c.args.places.now h)) l.g l.invariant.1 (sym c.net_fits.ensures ∙ c.if-not-net_fits.false)
+    (omega arith, every_net_more (λ (h : ℕ). every (pin_fits c.args.n) (pins_at c.args.counts.now c.args.places.now h)) l.g l.invariant.1 (sym c.net_fits.ensures ∙ c.if-not-net_fits.false))
 
 pub returns : goal.returns
 returns c =

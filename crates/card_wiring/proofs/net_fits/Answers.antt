@@ -27,12 +27,12 @@ returns-then-not-pin_fits c =
     let w = c.wide-count.ensures in
     sym (every_no (pin_fits c.args.n) (pins_at c.args.counts.now c.args.places.now c.args.g) _
     (in_listed (λ i. get_or c.args.places.now (c.args.g * 8 + i) 0) (get_or c.args.counts.now c.args.g 0) l.j (omega arith))
-    (sym c.pin_fits.ensures ∙ c.if-not-pin_fits.true)
+    (sym c.pin_fits.ensures ∙ c.if-not-pin_fits.true))
 
 pub loop-j-preserved : goal.loop-j-preserved
 loop-j-preserved c =
     let l = c.loop-j in
-    (omega arith, omega arith, every_more (pin_fits c.args.n) (λ i. get_or c.args.places.now (c.args.g * 8 + i) 0) l.j l.invariant.2 (sym c.pin_fits.ensures ∙ c.if-not-pin_fits.false)
+    (omega arith, omega arith, every_more (pin_fits c.args.n) (λ i. get_or c.args.places.now (c.args.g * 8 + i) 0) l.j l.invariant.2 (sym c.pin_fits.ensures ∙ c.if-not-pin_fits.false))
 
 pub returns : goal.returns
 returns c =

@@ -23,7 +23,7 @@ counted c = record { counted = c.gates_back-levels.ensures; highest_is = c.highe
 
 pub returns-then-not-all_fit : goal.returns-then-not-all_fit
 returns-then-not-all_fit c =
-    c.refused.ensures ∙ wired_unfit c.args.counts.now c.args.places.now c.args.n (sym c.all_fit.ensures ∙ c.if-not-all_fit.true
+    c.refused.ensures ∙ wired_unfit c.args.counts.now c.args.places.now c.args.n (sym c.all_fit.ensures ∙ c.if-not-all_fit.true)
 
 pub gates_back-levels-requires : goal.gates_back-levels-requires
 gates_back-levels-requires c = record { wires = c.requires; fitting = fits (goal.at.gates_back-levels-requires c).Else-not-all_fit }

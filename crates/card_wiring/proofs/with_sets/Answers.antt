@@ -11,7 +11,7 @@ use Rattle.card_wiring.specs.Inner.Wires.{order_of, sets_along, sizes_of}
 use Rattle.card_wiring.proofs.Orders.{ordered_fits, ordered_back}
 use Rattle.card_wiring.proofs.Judged.{Along, sets_refused, sets_passed}
 use Rattle.card_wiring.proofs.with_sets.Goals as goal
-use Rattle.card_wiring.proofs.with_sets.Goals.{After-by_level-by}
+use Rattle.card_wiring.proofs.with_sets.Goals.{After-by_level-by, After-sizes_of}
 
 abbrev gates : (c : After-by_level-by) → List ℕ
 gates c = order_of c.args.levels.now c.args.n c.args.depth
@@ -22,12 +22,8 @@ room c = ordered_fits c.args.levels.now c.args.n c.args.depth c.requires.wires.f
 back : (c : After-by_level-by) → listed (λ i. get_or c.by_level-by.result.list i 0) c.by_level-by.result.gates ≡ (order_of c.args.levels.now c.args.n c.args.depth)
 back c = ordered_back c.args.levels.now c.args.n c.args.depth c.requires.wires.few c.by_level-by.result c.by_level-by.ensures
 
-along : (c : tie.After-sizes-of)
-    → let b = c.before.before.before.before.before.before in
-    Along b.before.args.counts.now b.before.args.places.now b.before.args.n (gates b) b.by_level.result c.before.before.before.pcsets.result c.sizes-of.result
-along c =
-    let b = c.before.before.before.before.before.before in
-    record { ordering = b.by_level.ensures; made = c.before.before.before.pcsets.ensures ∙ ap (sets_along _ _ _) (back b); counted = c.sizes-of.ensures ∙ ap (sizes_of _) (back b) }
+along : (c : After-sizes_of) → Along c.args.counts.now c.args.places.now c.args.n ((order_of c.args.levels.now c.args.n c.args.depth)) c.by_level-by.result c.pcsets-sets.result c.sizes_of.result
+along c = record { ordering = c.by_level-by.ensures; made = c.pcsets-sets.ensures ∙ ap (sets_along _ _ _) ((let it : listed (λ i. get_or c.by_level-by.result.list i 0) c.by_level-by.result.gates ≡ (order_of c.args.levels.now c.args.n c.args.depth) = ordered_back c.args.levels.now c.args.n c.args.depth c.requires.wires.few c.by_level-by.result c.by_level-by.ensures in it)); counted = c.sizes_of.ensures ∙ ap (sizes_of _) ((let it : listed (λ i. get_or c.by_level-by.result.list i 0) c.by_level-by.result.gates ≡ (order_of c.args.levels.now c.args.n c.args.depth) = ordered_back c.args.levels.now c.args.n c.args.depth c.requires.wires.few c.by_level-by.result c.by_level-by.ensures in it)) }
 
 pub pcsets-sets-requires : goal.pcsets-sets-requires
 pcsets-sets-requires c = record { wires = c.requires.wires; fitting = c.requires.fitting; gates_bound = room (goal.at.pcsets-sets-requires c).After-by_level-by }

@@ -13,23 +13,21 @@ use Rattle.inputs.specs.Inner.Starts.{tops_of}
 use Rattle.fields.specs.Inner.Fields.{field_of, pin_word, passed}
 use Rattle.fields.proofs.Fields.{passed_none, passed_more, own_top}
 use Rattle.fields.proofs.pass.Goals as goal
+use Rattle.fields.proofs.pass.Goals.{After-wide16-g}
 
 -- the gate that is read has what a gate needs
-gated : (c : tie.After-wide16 invariant-loop decreases-loop)
-    → Gates c.before.before.before.before.args.types.now c.before.before.before.before.args.counts.now c.wide16.result
-gated c =
-    let s = c.before.before.before.before in
-    subst (Gates s.args.types.now s.args.counts.now) (sym c.wide16.ensures) (s.requires.1.1.0.1 c.before.before.before.loop.i c.before.before.loop-test.true)
+gated : (c : After-wide16-g) → Gates c.args.types.now c.args.counts.now c.wide16-g.result
+gated c = subst (Gates c.args.types.now c.args.counts.now) (sym c.wide16-g.ensures) (c.requires.gates_bound.1 c.loop-i.i c.loop-i-test.true)
 
 pub loop-i-init : goal.loop-i-init
 loop-i-init c = (omega arith, passed_none (tops_of c.args.words.now) c.args.types.now c.args.counts.now c.args.places.now c.args.words.now _ c.requires.words_len)
 
 pub field_of-requires : goal.field_of-requires
 field_of-requires c =
-    record { wires = c.requires.wires; fitting = c.requires.fitting; gates = gated (goal.at.field_of-requires c).After-wide16-arg-1 }
+    record { wires = c.requires.wires; fitting = c.requires.fitting; gates = gated (goal.at.field_of-requires c).After-wide16-g }
 
 pub offset_bounds-words-g : goal.offset_bounds-words-g
-offset_bounds-words-g c = omega (arith, (gated (goal.at.offset_bounds-words-g c).After-wide16-arg-1).net)
+offset_bounds-words-g c = omega (arith, (gated (goal.at.offset_bounds-words-g c).After-wide16-g).net)
 
 pub bounds-words-g : goal.bounds-words-g
 bounds-words-g c = (gated (goal.at.bounds-words-g c).After-wide16-g).net

@@ -21,16 +21,16 @@ narrow : (c : Else-flags-n) → c.args.t1.nets ≤ 256
 narrow c = few c.args.t1 (holds c.args.t1 c.requires ((let it : c.args.t1.rested ≡ true = c.if-not-s.false in it)))
 
 pub returns-then-not-s : goal.returns-then-not-s
-returns-then-not-s c = let a = c.args in sym (gives_12 a.t1 a.words.now a.befores.now a.flags.now (c.if-not-s.true)
+returns-then-not-s c = let a = c.args in sym (gives_12 a.t1 a.words.now a.befores.now a.flags.now (c.if-not-s.true))
 
 pub returns-then-words-n : goal.returns-then-words-n
-returns-then-words-n c = let a = c.args in sym (gives_18 a.t1 a.words.now a.befores.now a.flags.now (c.if-not-s.false (inl c.if-words-n.true))
+returns-then-words-n c = let a = c.args in sym (gives_18 a.t1 a.words.now a.befores.now a.flags.now (c.if-not-s.false) (inl c.if-words-n.true))
 
 pub returns-then-befores-n : goal.returns-then-befores-n
-returns-then-befores-n c = let a = c.args in sym (gives_18 a.t1 a.words.now a.befores.now a.flags.now (c.if-not-s.false (inr (inl c.if-befores-n.true)))
+returns-then-befores-n c = let a = c.args in sym (gives_18 a.t1 a.words.now a.befores.now a.flags.now (c.if-not-s.false) (inr (inl c.if-befores-n.true)))
 
 pub returns-then-flags-n : goal.returns-then-flags-n
-returns-then-flags-n c = let a = c.args in sym (gives_18 a.t1 a.words.now a.befores.now a.flags.now (c.if-not-s.false (inr (inr c.if-flags-n.true)))
+returns-then-flags-n c = let a = c.args in sym (gives_18 a.t1 a.words.now a.befores.now a.flags.now (c.if-not-s.false) (inr (inr c.if-flags-n.true)))
 
 pub put_words-requires : goal.put_words-requires
 put_words-requires c = (omega (arith, narrow (goal.at.put_words-requires c).Else-flags-n), omega (arith, c.if-words-n.false))

@@ -22,7 +22,7 @@ rested : (c : After-rest-rested) → (let a = c.args in c.rest-rested.result ≡
 rested c = rw part_of at c.rest-rested.ensures
 
 pub returns-then-not-rooms_fit : goal.returns-then-not-rooms_fit
-returns-then-not-rooms_fit c = let a = c.args in c.broken_session.ensures ∙ moved_not a.b.now a.s a.engine (sym c.rooms_fit.ensures ∙ c.if-not-rooms_fit.true
+returns-then-not-rooms_fit c = let a = c.args in c.broken_session.ensures ∙ moved_not a.b.now a.s a.engine (sym c.rooms_fit.ensures ∙ c.if-not-rooms_fit.true)
 
 pub vector_by-requires : goal.vector_by-requires
 vector_by-requires c =

@@ -8,10 +8,10 @@ use borrow.Author.Rules.{rules}
 use Rattle.host_made.proofs.made_rested.Goals as goal
 
 pub returns-then-not-rooms_fit : goal.returns-then-not-rooms_fit
-returns-then-not-rooms_fit c = let a = c.args in c.broken_session.ensures ∙ rested_not a.b.now a.s (sym c.rooms_fit.ensures ∙ c.if-not-rooms_fit.true
+returns-then-not-rooms_fit c = let a = c.args in c.broken_session.ensures ∙ rested_not a.b.now a.s (sym c.rooms_fit.ensures ∙ c.if-not-rooms_fit.true)
 
 pub returns : goal.returns
 returns c =
     let a = c.args in
     let r = rw part_of at c.rest.ensures in
-    c.made_by.ensures ∙ ap made_by r ∙ rested_is a.b.now a.s (sym c.rooms_fit.ensures ∙ c.if-not-rooms_fit.false
+    c.made_by.ensures ∙ ap made_by r ∙ rested_is a.b.now a.s (sym c.rooms_fit.ensures ∙ c.if-not-rooms_fit.false)

@@ -28,7 +28,7 @@ returns-then-vectors-n-ne0 c = let a = c.args in many_10 a.s a.vectors.now a.roo
 pub returns-then-not-bytes_fit : goal.returns-then-not-bytes_fit
 returns-then-not-bytes_fit c =
     let a = c.args in
-    many_11 a.s a.vectors.now a.room (ready (goal.at.returns-then-not-bytes_fit c).Else-not-s) c.if-vectors-n-ne0.false (sym c.bytes_fit.ensures ∙ c.if-not-bytes_fit.true
+    many_11 a.s a.vectors.now a.room (ready (goal.at.returns-then-not-bytes_fit c).Else-not-s) c.if-vectors-n-ne0.false (sym c.bytes_fit.ensures ∙ c.if-not-bytes_fit.true)
 
 pub nonzero_div-k : goal.nonzero_div-k
 nonzero_div-k c = (inputs_some _ (card (goal.at.nonzero_div-k c).Else-not-s)).0
@@ -39,9 +39,9 @@ nonzero_div-room c = (inputs_some _ (card (goal.at.nonzero_div-room c).Else-not-
 pub returns-then-room-nets : goal.returns-then-room-nets
 returns-then-room-nets c =
     let a = c.args in
-    many_18 a.s a.vectors.now a.room (ready (goal.at.returns-then-room-nets c).Else-not-s) c.if-vectors-n-ne0.false (sym c.bytes_fit.ensures ∙ c.if-not-bytes_fit.false (inputs_some _ (card (goal.at.returns-then-room-nets c).Else-not-s)).1 c.if-room-nets.true
+    many_18 a.s a.vectors.now a.room (ready (goal.at.returns-then-room-nets c).Else-not-s) c.if-vectors-n-ne0.false (sym c.bytes_fit.ensures ∙ c.if-not-bytes_fit.false) (inputs_some _ (card (goal.at.returns-then-room-nets c).Else-not-s)).1 c.if-room-nets.true
 
 pub returns : goal.returns
 returns c =
     let a = c.args in
-    many_0 a.s a.vectors.now a.room (ready (goal.at.returns c).Else-not-s) c.if-vectors-n-ne0.false (sym c.bytes_fit.ensures ∙ c.if-not-bytes_fit.false (inputs_some _ (card (goal.at.returns c).Else-not-s)).1 c.if-room-nets.false
+    many_0 a.s a.vectors.now a.room (ready (goal.at.returns c).Else-not-s) c.if-vectors-n-ne0.false (sym c.bytes_fit.ensures ∙ c.if-not-bytes_fit.false) (inputs_some _ (card (goal.at.returns c).Else-not-s)).1 c.if-room-nets.false

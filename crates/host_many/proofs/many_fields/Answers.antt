@@ -35,9 +35,8 @@ abbrev begun : (c : In-loop-done) → tie.Start invariant-loop decreases-loop
 begun c = (c.before.before.before.before)
 
 -- the bytes of the next vector, and the room for its words, are there
-has : (c : tie.In-loop invariant-loop decreases-loop)
-    → (let l = c.before.loop in let a = (begun c).args in Turn a.t1 a.vectors.now (length a.room.now) l.done l.from l.at)
-has c = let l = c.before.loop in let a = begun c in turn_has a.args.t1 _ _ a.args.k l.done _ _ l.invariant.1 l.invariant.2 c.loop-test.true a.pre.1.1.0 a.pre.1.1.2
+has : (c : In-loop-done) → (let l = c.loop-done in let a = (((c.before.before.before.before))).args in Turn a.t1 a.vectors.now (length a.room.now) l.done l.from l.at)
+has c = let l = c.loop-done in let a = ((c.before.before.before.before)) in turn_has a.args.t1 _ _ a.args.k l.done _ _ l.invariant.1 l.invariant.2 c.loop-done-test.true a.pre.1.1.0 a.pre.1.1.2
 
 -- the room has kept its length
 room-long : (l : At-loop-done) → length l.loop-done.room ≡ length ((l.before.before.before.before)).args.room.now
@@ -48,7 +47,7 @@ abbrev turn : (c : After-advance) → tie.In-loop invariant-loop decreases-loop
 turn c = c.before.before.before.before.before.before.before.before.before
 
 pub overflow_add-from : goal.overflow_add-from
-overflow_add-from c = let b = (has (goal.at.overflow_add-from c).At-loop-done).bytes_there in search rules
+overflow_add-from c = let b = (has (goal.at.overflow_add-from c).In-loop-done).bytes_there in search rules
 
 pub advance-requires : goal.advance-requires
 advance-requires c =
@@ -56,8 +55,8 @@ advance-requires c =
     let a = begun (goal.at.advance-requires c).In-loop-done in
     let s = a.args.t1 in
     let h = card a in
-    let fits = (has (goal.at.advance-requires c).At-loop-done).bytes_fit in
-    let size = ap length (has (goal.at.advance-requires c).At-loop-done).bytes_are ∙ (many_vector a.args.vectors.now s.inputs l.done a.pre.1.0.1 fits).size in
+    let fits = (has (goal.at.advance-requires c).In-loop-done).bytes_fit in
+    let size = ap length (has (goal.at.advance-requires c).In-loop-done).bytes_are ∙ (many_vector a.args.vectors.now s.inputs l.done a.pre.1.0.1 fits).size in
     let fed = feeds_fit s h (take (l.from + s.inputs - l.from) (drop l.from a.args.vectors.now)) size in
     let long = ap length l.invariant.3 ∙ left_long Fields s a.pre.0 a.pre.1.0.0 a.args.vectors.now a.args.room.now a.pre.1.0.1 l.done (omega (arith, fits)) in
     record { wires = card_wires s h; fitting = card_fitting s h; gates_bound = gates_fit s h; by_index = gates_once s h; v_len_bound = (fed.0, fed.1, long) }

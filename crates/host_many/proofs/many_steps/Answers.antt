@@ -51,9 +51,8 @@ unfolding many_by
 loop-done-init c = let s = (at_listed (goal.at.loop-done-init c).After-put_list-total).args.t1 in (omega arith, sym (zero-mul s.inputs), sym (zero-mul s.nets), refl, refl, refl)
 
 -- the bytes of the next vector, and the room for its words, are there
-has : (c : tie.In-loop invariant-loop decreases-loop)
-    → (let l = c.before.loop in let a = (begun c).args in Turn a.t1 a.vectors.now (length a.room.now) l.done l.from l.at)
-has c = let l = c.before.loop in let a = begun c in turn_has a.args.t1 _ _ a.args.k l.done _ _ l.invariant.1 l.invariant.2 c.loop-test.true a.pre.1.1.0 a.pre.1.1.2
+has : (c : In-loop-done) → (let l = c.loop-done in let a = (((at_listed ((c.before.before))))).args in Turn a.t1 a.vectors.now (length a.room.now) l.done l.from l.at)
+has c = let l = c.loop-done in let a = ((at_listed ((c.before.before)))) in turn_has a.args.t1 _ _ a.args.k l.done _ _ l.invariant.1 l.invariant.2 c.loop-done-test.true a.pre.1.1.0 a.pre.1.1.2
 
 -- the room has kept its length
 room-long : (l : At-loop-done) → length l.loop-done.room ≡ length ((at_listed ((l.before.before)))).args.room.now
@@ -64,7 +63,7 @@ abbrev turn : (c : After-advance-left) → tie.In-loop invariant-loop decreases-
 turn c = c.before.before.before.before.before.before.before.before.before.before.before
 
 pub overflow_add-from : goal.overflow_add-from
-overflow_add-from c = let b = (has (goal.at.overflow_add-from c).At-loop-done).bytes_there in search rules
+overflow_add-from c = let b = (has (goal.at.overflow_add-from c).In-loop-done).bytes_there in search rules
 
 pub advance-left-requires : goal.advance-left-requires
 advance-left-requires c =
@@ -72,7 +71,7 @@ advance-left-requires c =
     let a = begun (goal.at.advance-left-requires c).In-loop-done in
     let s = a.args.t1 in
     let h = card a in
-    let size = ap length (has (goal.at.advance-left-requires c).At-loop-done).bytes_are ∙ (many_vector a.args.vectors.now s.inputs l.done a.pre.1.0.1 (has (goal.at.advance-left-requires c).At-loop-done).bytes_fit).size in
+    let size = ap length (has (goal.at.advance-left-requires c).In-loop-done).bytes_are ∙ (many_vector a.args.vectors.now s.inputs l.done a.pre.1.0.1 (has (goal.at.advance-left-requires c).In-loop-done).bytes_fit).size in
     let fed = feeds_fit s h (take (l.from + s.inputs - l.from) (drop l.from a.args.vectors.now)) size in
     let put = ready (list (goal.at.advance-left-requires c).At-loop-done) in
     record { wires = card_wires s h; fitting = card_fitting s h; total_bound = (put.few, fed.0, fed.1); doable = put.doable }

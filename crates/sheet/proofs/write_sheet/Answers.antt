@@ -25,7 +25,7 @@ falls c =
     let l = c.loop-sheet in
     let after = ap (λ x. left x ((c.args.file.now))) (sheet_after (piece_of l.sheet ((c.args.file.now))) l.out _ _ c.next-piece.ensures.0) in
     omega
-    (arith, after, going_falls ((c.args.file.now)) l.sheet (sym c.is_over.ensures ∙ c.loop-sheet-test.true)
+    (arith, after, going_falls ((c.args.file.now)) l.sheet (sym c.is_over.ensures ∙ c.loop-sheet-test.true))
 
 pub loop-sheet-init : goal.loop-sheet-init
 loop-sheet-init c = (c.begin-sheet.ensures.1, c.requires)

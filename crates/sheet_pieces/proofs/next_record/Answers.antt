@@ -12,7 +12,7 @@ use Rattle.sheet_pieces.proofs.Steps.{hand_back, hand_on}
 use Rattle.sheet_pieces.proofs.Standing.{Placed, entry_placed}
 use borrow.Author.Rules.{rules}
 use Rattle.sheet_pieces.proofs.next_record.Goals as goal
-use Rattle.sheet_pieces.proofs.next_record.Goals.{After-entry_at}
+use Rattle.sheet_pieces.proofs.next_record.Goals.{After-entry_at, In-Rest, In-Vector}
 
 -- the file and the place, and that a rest, or a vector, is whole
 abbrev file : (c : After-entry_at) → List ℕ
@@ -24,13 +24,11 @@ place e = e.args.sheet.at
 placed : (e : tie.After-entry-at) (x : Entry) → e.entry_at.result ≡ x → Placed (length (file e)) (place e) x
 placed e x g = subst (Placed (length (file e)) (place e)) (sym e.entry_at.ensures ∙ g) (entry_placed (file e) (place e))
 
-rest-placed : (c : tie.After-known-told2)
-    → Placed (length (file c.before.before.before)) (place c.before.before.before) (Rest c.before.to.given.0.0)
-rest-placed c = placed c.before.before.before _ c.before.to.given.1
+rest-placed : (c : In-Rest) → Placed (length ((c.args.file.now))) ((c.args.sheet.at)) (Rest c.in-Rest.to)
+rest-placed c = placed c.before.before.before _ c.in-Rest.is
 
-vector-placed : (c : tie.After-known-told3)
-    → Placed (length (file c.before.before.before)) (place c.before.before.before) (Vector c.before.to2.given.0.0)
-vector-placed c = placed c.before.before.before _ c.before.to2.given.1
+vector-placed : (c : In-Vector) → Placed (length ((c.args.file.now))) ((c.args.sheet.at)) (Vector c.in-Vector.to)
+vector-placed c = placed c.before.before.before _ c.in-Vector.is
 
 pub overflow_add-from : goal.overflow_add-from
 overflow_add-from c = let p = rest-placed (goal.at.overflow_add-from c).In-Rest in search rules

@@ -7,16 +7,16 @@ use Rattle.sheet_pieces.specs.Pieces.{loaded_piece, card_piece}
 use Rattle.sheet_pieces.proofs.Steps.{hand_on, refused_so, done_so, card_long, card_loads, bytes_front}
 use borrow.Author.Rules.{rules}
 use Rattle.sheet_pieces.proofs.open_card.Goals as goal
+use Rattle.sheet_pieces.proofs.open_card.Goals.{After-load-loaded}
 
 -- there the piece is what load's answer makes it
-loads : (l : tie.After-load)
-    → loaded_piece (entry l).args.sheet l.before.before.before.card-end.result l.load.result
-    ≡ card_piece (entry l).args.sheet (entry l).args.file.now
+loads : (l : After-load-loaded) → loaded_piece l.args.sheet l.card_end-at.result l.load-loaded.result
+    ≡ card_piece l.args.sheet l.args.file.now
 loads l =
-    let a = (entry l).args in
-    card_loads a.sheet a.file.now l.before.before.empty.result l.before.before.before.card-end.result l.load.result
-    l.before.before.before.before.if1.false l.before.before.empty.ensures
-    l.before.before.before.card-end.ensures.0 l.load.ensures
+    let a = l.args in
+    card_loads a.sheet a.file.now l.empty.result l.card_end-at.result l.load-loaded.result
+    l.if-file-gt65536.false l.empty.ensures
+    l.card_end-at.ensures.0 l.load-loaded.ensures
 
 pub returns-then-file-gt65536 : goal.returns-then-file-gt65536
 returns-then-file-gt65536 c =

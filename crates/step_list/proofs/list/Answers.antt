@@ -27,7 +27,7 @@ few : (c : After-put_list-total) → c.put_list-total.result ≤ 4096
 few c = list_few c.args.t1 ((let it : HasCard c.args.t1 = c.requires.card ((let it : c.args.t1.loaded ≡ true = c.if-not-s.false in it)) in it)) c.put_list-total.ensures
 
 pub returns-then-not-s : goal.returns-then-not-s
-returns-then-not-s c = let a = c.args in list_none a.t1 a.nets.now a.times.now (c.if-not-s.true
+returns-then-not-s c = let a = c.args in list_none a.t1 a.nets.now a.times.now (c.if-not-s.true)
 
 pub put_list-total-requires : goal.put_list-total-requires
 put_list-total-requires c =

@@ -53,7 +53,7 @@ returns-then-not-reads_done c =
     let l = c.loop-i in
     sym (l.inv.1
     ∙ ready_stop a.counts.now a.places.now a.sets.now a.nets.now a.times.now a.order.now l.done l.i c.wide16-g.result c.narrow-t.result (omega arith) (net-is (goal.at.returns-then-not-reads_done c).After-narrow-t) (time-is (goal.at.returns-then-not-reads_done c).After-narrow-t)
-    (sym c.reads_done.ensures ∙ c.if-not-reads_done.true)
+    (sym c.reads_done.ensures ∙ c.if-not-reads_done.true))
 
 pub offset_bounds-done-g : goal.offset_bounds-done-g
 offset_bounds-done-g c = let h = placed (goal.at.offset_bounds-done-g c).Else-not-reads_done in search rules
@@ -77,7 +77,7 @@ loop-i-preserved c =
       omega arith,
       l.inv.1
           ∙ ready_turn a.counts.now a.places.now a.sets.now a.nets.now a.times.now a.order.now l.done l.i c.wide16-g.result c.narrow-t.result (omega arith) (net-is (goal.at.loop-i-preserved c).After-narrow-t) (time-is (goal.at.loop-i-preserved c).After-narrow-t)
-          c.put.result (sym c.reads_done.ensures ∙ c.if-not-reads_done.false (omega (arith, c.put.type_inv)) c.put.ensures,
+          c.put.result (sym c.reads_done.ensures ∙ c.if-not-reads_done.false) (omega (arith, c.put.type_inv)) c.put.ensures,
     )
 
 pub returns : goal.returns

@@ -27,12 +27,12 @@ pub returns-then-not-read_at : goal.returns-then-not-read_at
 returns-then-not-read_at c =
     let e = c.wide-count.ensures in
     let a = c.args in
-    pins_not a.done.now a.counts.now a.places.now a.sets.now a.g a.t c.loop-j.j (omega arith) (sym c.read_at.ensures ∙ c.if-not-read_at.true
+    pins_not a.done.now a.counts.now a.places.now a.sets.now a.g a.t c.loop-j.j (omega arith) (sym c.read_at.ensures ∙ c.if-not-read_at.true)
 
 pub loop-j-preserved : goal.loop-j-preserved
 loop-j-preserved c =
     let l = c.loop-j in
-    (omega arith, omega arith, every_more _ _ l.j l.invariant.2 (sym c.read_at.ensures ∙ c.if-not-read_at.false)
+    (omega arith, omega arith, every_more _ _ l.j l.invariant.2 (sym c.read_at.ensures ∙ c.if-not-read_at.false))
 
 pub returns : goal.returns
 returns c =

@@ -31,7 +31,7 @@ few : (p : After-put_list-total) → p.put_list-total.result ≤ 4096
 few p = list_few ((p.before.before.before.before.before.before)).before.args.t1 (card ((p.before.before.before.before.before.before))) p.put_list-total.ensures
 
 pub returns-then-not-s : goal.returns-then-not-s
-returns-then-not-s c = let a = c.args in c.no_records.ensures ∙ sym (listing_none a.t1 a.room (c.if-not-s.true)
+returns-then-not-s c = let a = c.args in c.no_records.ensures ∙ sym (listing_none a.t1 a.room (c.if-not-s.true))
 
 pub put_list-total-requires : goal.put_list-total-requires
 put_list-total-requires c = record { gates_bound = list_asked c.args.t1 (card (goal.at.put_list-total-requires c).Else-not-s); nets_len = search rules }

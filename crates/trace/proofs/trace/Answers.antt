@@ -26,15 +26,15 @@ changed : (c : Else-not-moved_at) → let a = c.args in moved_at a.t1.before a.t
 changed c = sym c.moved_at.ensures ∙ c.if-not-moved_at.false
 
 pub returns-then-not-s : goal.returns-then-not-s
-returns-then-not-s c = let a = c.args in sym (gives_12 a.t1 a.n a.t a.room.now (c.if-not-s.true)
+returns-then-not-s c = let a = c.args in sym (gives_12 a.t1 a.n a.t a.room.now (c.if-not-s.true))
 
 pub returns-then-s-n : goal.returns-then-s-n
-returns-then-s-n c = let a = c.args in sym (gives_13 a.t1 a.n a.t a.room.now (c.if-not-s.false c.if-s-n.true)
+returns-then-s-n c = let a = c.args in sym (gives_13 a.t1 a.n a.t a.room.now (c.if-not-s.false) c.if-s-n.true)
 
 pub returns-then-t-gt63 : goal.returns-then-t-gt63
 returns-then-t-gt63 c =
     let a = c.args in
-    sym (gives_14 a.t1 a.n a.t a.room.now (c.if-not-s.false (omega arith) (late_then a.t1 a.n a.t (omega arith)))
+    sym (gives_14 a.t1 a.n a.t a.room.now (c.if-not-s.false) (omega arith) (late_then a.t1 a.n a.t (omega arith)))
 
 pub moved_at-requires : goal.moved_at-requires
 moved_at-requires c = (placed (goal.at.moved_at-requires c).Else-t-gt63, omega arith)
@@ -42,7 +42,7 @@ moved_at-requires c = (placed (goal.at.moved_at-requires c).Else-t-gt63, omega a
 pub returns-then-not-moved_at : goal.returns-then-not-moved_at
 returns-then-not-moved_at c =
     let a = c.args in
-    sym (gives_14 a.t1 a.n a.t a.room.now (ready (goal.at.returns-then-not-moved_at c).Else-t-gt63) (omega arith) (changed_then_lem a.t1 a.n a.t (omega arith) false (sym c.moved_at.ensures ∙ c.if-not-moved_at.true))
+    sym (gives_14 a.t1 a.n a.t a.room.now (ready (goal.at.returns-then-not-moved_at c).Else-t-gt63) (omega arith) (changed_then_lem a.t1 a.n a.t (omega arith) false (sym c.moved_at.ensures ∙ c.if-not-moved_at.true)))
 
 pub returns-then-room-length : goal.returns-then-room-length
 returns-then-room-length c =

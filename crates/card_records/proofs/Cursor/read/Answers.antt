@@ -58,7 +58,7 @@ returns-then-n-at-lt4 c = read_as _ _ _ _ _ _ refl refl refl (no_head (omega ari
 
 pub returns-then-not-kind_fits : goal.returns-then-not-kind_fits
 returns-then-not-kind_fits c =
-    reads (goal.at.returns-then-not-kind_fits c).After-u16_at-kind _ refl _ (bad_head (there (goal.at.returns-then-not-kind_fits c).After-u16_at-kind) (sym c.kind_fits.ensures ∙ c.if-not-kind_fits.true)
+    reads (goal.at.returns-then-not-kind_fits c).After-u16_at-kind _ refl _ (bad_head (there (goal.at.returns-then-not-kind_fits c).After-u16_at-kind) (sym c.kind_fits.ensures ∙ c.if-not-kind_fits.true))
 
 pub returns-then-n-body : goal.returns-then-n-body
 returns-then-n-body c = reads (goal.at.returns-then-n-body c).After-u16_at-kind _ refl _ (no_body (there (goal.at.returns-then-n-body c).After-u16_at-kind) (fits (goal.at.returns-then-n-body c).Else-not-kind_fits) (omega arith))
@@ -70,7 +70,7 @@ pub returns-then-not-body_fits : goal.returns-then-not-body_fits
 returns-then-not-body_fits c =
     let first = c.first_byte-first in
     reads (goal.at.returns-then-not-body_fits c).After-u16_at-kind _ first.ensures _
-    (bad_body (inside (goal.at.returns-then-not-body_fits c).Else-n-body) (fits (goal.at.returns-then-not-body_fits c).Else-not-kind_fits) (sym c.body_fits.ensures ∙ c.if-not-body_fits.true)
+    (bad_body (inside (goal.at.returns-then-not-body_fits c).Else-n-body) (fits (goal.at.returns-then-not-body_fits c).Else-not-kind_fits) (sym c.body_fits.ensures ∙ c.if-not-body_fits.true))
 
 pub returns-then-kind-eq4 : goal.returns-then-kind-eq4
 returns-then-kind-eq4 c =

@@ -19,7 +19,7 @@ loop-from-init c = (omega arith, numbers_start _ (sym c.is_dash.ensures ∙ c.if
 pub returns-then-not-is_number : goal.returns-then-not-is_number
 returns-then-not-is_number c =
     let h = c.loop-from in
-    sym (numbers_stop _ h.from _ _ c.loop-from-test.true c.part_at.ensures.0 c.is_number.ensures (c.if-not-is_number.true) ∙ h.invariant.1
+    sym (numbers_stop _ h.from _ _ c.loop-from-test.true c.part_at.ensures.0 c.is_number.ensures (c.if-not-is_number.true)) ∙ h.invariant.1
 
 pub loop-from-smaller : goal.loop-from-smaller
 loop-from-smaller c = let l = c.next_part-from.ensures.2 c.loop-from-test.true in omega arith
@@ -27,7 +27,7 @@ loop-from-smaller c = let l = c.next_part-from.ensures.2 c.loop-from-test.true i
 pub loop-from-preserved : goal.loop-from-preserved
 loop-from-preserved c =
     let h = c.loop-from in
-    (c.next_part-from.ensures.0, sym (numbers_on _ h.from _ _ _ c.loop-from-test.true c.part_at.ensures.0 c.next_part-from.ensures.1 c.is_number.ensures (c.if-not-is_number.false) ∙ h.invariant.1)
+    (c.next_part-from.ensures.0, sym (numbers_on _ h.from _ _ _ c.loop-from-test.true c.part_at.ensures.0 c.next_part-from.ensures.1 c.is_number.ensures (c.if-not-is_number.false)) ∙ h.invariant.1)
 
 pub returns : goal.returns
 returns c = sym (numbers_end _ c.loop-from.from c.loop-from-test.false) ∙ c.loop-from.invariant.1
