@@ -4,7 +4,7 @@ use mathlib.Core.Bool.{Bool}
 use mathlib.Core.List.{List, map}
 use Prim.Native.Nat.{ℕ, ◌+◌, ◌*◌, ◌<◌}
 use native.Mathlib.Omega.{arith}
-use lib.ListN.{length, get_or, length-map}
+use lib.ListN.{get_or, length-map}
 use Rattle.lists.specs.Listed.{listed}
 use Rattle.lists.proofs.Listed.{length_listed, map_listed}
 use Rattle.word.specs.Word.{differ}

@@ -1,11 +1,8 @@
 -- `card_wiring::all_fit` meets its contract. The loop's invariant: every pin of the first g nets fits. The measure is what is left of n.
 -- Assumes nothing.
 use mathlib.Core.Path.{◌≡◌, refl, sym, ◌∙◌}
-use mathlib.Core.Bool.{true}
-use Prim.Native.Nat.{ℕ, ◌-◌, ◌≤◌}
+use Prim.Native.Nat.{ℕ}
 use native.Mathlib.Omega.{arith}
-use borrow.Author.Rules.{rules}
-use borrow.Author.Tests.{not-true, not-false}
 use Rattle.lists.specs.Entries.{every, from}
 use Rattle.lists.proofs.Tests.{every_no}
 use Rattle.lists.proofs.Joined.{in_from}

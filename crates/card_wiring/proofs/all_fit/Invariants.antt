@@ -1,15 +1,9 @@
-use mathlib.Core.Path.{◌≡◌, refl, sym, ◌∙◌}
+use mathlib.Core.Path.{◌≡◌}
 use mathlib.Core.Bool.{true}
 use Prim.Native.Nat.{ℕ, ◌-◌, ◌≤◌}
-use native.Mathlib.Omega.{arith}
-use borrow.Author.Rules.{rules}
-use borrow.Author.Tests.{not-true, not-false}
 use Rattle.lists.specs.Entries.{every, from}
-use Rattle.lists.proofs.Tests.{every_no}
-use Rattle.lists.proofs.Joined.{in_from}
 use Rattle.card_wiring.specs.Layout.{pins_at}
 use Rattle.card_wiring.specs.Wired.{pin_fits}
-use Rattle.card_wiring.proofs.Pins.{every_net_more}
 use Rattle.card_wiring.proofs.all_fit.Given as goal
 
 abbrev pub invariant-loop-g : goal.invariant-loop-g

@@ -4,7 +4,6 @@ use mathlib.Core.Logic.{⊎_elim}
 use Prim.Native.Nat.{ℕ}
 use native.Mathlib.Omega.{arith}
 use lib.ListN.{get_or}
-use borrow.Author.Rules.{rules}
 use Rattle.rule.specs.Net.{open_pin}
 use Rattle.rule.proofs.Nets.{at_open, at_net, open_is}
 use Rattle.card_wiring.proofs.at_pin.Goals as goal

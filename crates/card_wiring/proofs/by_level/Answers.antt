@@ -1,11 +1,8 @@
 -- `card_wiring::by_level` meets its contract. The loop's invariant: the order has the levels below l. The measure is what is left of the
 -- levels. Assumes nothing.
 use mathlib.Core.Path.{◌≡◌}
-use Prim.Native.Nat.{◌+◌, ◌-◌, ◌≤◌}
+use Prim.Native.Nat.{◌+◌, ◌-◌}
 use native.Mathlib.Omega.{arith}
-use borrow.Author.Rules.{rules}
-use Rattle.card_wiring.specs.Inner.Wires.{order_of}
-use Rattle.card_wiring.specs.Inner.Wired.{as_order}
 use Rattle.card_wiring.proofs.Orders.{ordered_none}
 use Rattle.card_wiring.proofs.by_level.Goals as goal
 

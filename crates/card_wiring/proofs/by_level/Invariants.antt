@@ -1,10 +1,7 @@
 use mathlib.Core.Path.{◌≡◌}
 use Prim.Native.Nat.{◌+◌, ◌-◌, ◌≤◌}
-use native.Mathlib.Omega.{arith}
-use borrow.Author.Rules.{rules}
 use Rattle.card_wiring.specs.Inner.Wires.{order_of}
 use Rattle.card_wiring.specs.Inner.Wired.{as_order}
-use Rattle.card_wiring.proofs.Orders.{ordered_none}
 use Rattle.card_wiring.proofs.by_level.Given as goal
 
 abbrev pub invariant-loop-l : goal.invariant-loop-l

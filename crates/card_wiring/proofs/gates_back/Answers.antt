@@ -1,11 +1,9 @@
 -- `card_wiring::gates_back` meets its contract. The loop's invariant: k gates are followed back from every net. A sweep that changes nothing
 -- is the last. The measure is what is left of n + 1 gates. Assumes nothing.
 use mathlib.Core.Path.{◌≡◌, sym, ◌∙◌}
-use Prim.Native.Nat.{ℕ, ◌+◌, ◌-◌, ◌≤◌}
+use Prim.Native.Nat.{◌+◌}
 use native.Mathlib.Omega.{arith}
-use borrow.Author.Rules.{rules}
 use Rattle.lists.proofs.Listed.{length_listed}
-use Rattle.card_wiring.specs.Inner.Wires.{backs}
 use Rattle.card_wiring.proofs.Sweeps.{backs_none, sweeps_end}
 use Rattle.card_wiring.proofs.gates_back.Goals as goal
 

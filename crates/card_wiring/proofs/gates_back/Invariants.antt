@@ -1,10 +1,6 @@
-use mathlib.Core.Path.{◌≡◌, sym, ◌∙◌}
+use mathlib.Core.Path.{◌≡◌}
 use Prim.Native.Nat.{ℕ, ◌+◌, ◌-◌, ◌≤◌}
-use native.Mathlib.Omega.{arith}
-use borrow.Author.Rules.{rules}
-use Rattle.lists.proofs.Listed.{length_listed}
 use Rattle.card_wiring.specs.Inner.Wires.{backs}
-use Rattle.card_wiring.proofs.Sweeps.{backs_none, sweeps_end}
 use Rattle.card_wiring.proofs.gates_back.Given as goal
 
 abbrev pub invariant-loop-k : goal.invariant-loop-k

@@ -1,10 +1,7 @@
 -- `card_wiring::highest_of` meets its contract. The loop's invariant: `top` is the highest of the first g. The measure is what is left of n.
 -- Assumes nothing.
 use mathlib.Core.Path.{◌≡◌, refl}
-use Prim.Native.Nat.{◌-◌, ◌≤◌}
 use native.Mathlib.Omega.{arith}
-use borrow.Author.Rules.{rules}
-use Rattle.card_wiring.specs.Inner.Wires.{highest}
 use Rattle.card_wiring.proofs.Sweeps.{highest_more}
 use Rattle.card_wiring.proofs.highest_of.Goals as goal
 

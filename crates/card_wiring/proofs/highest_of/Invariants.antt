@@ -1,9 +1,6 @@
-use mathlib.Core.Path.{◌≡◌, refl}
+use mathlib.Core.Path.{◌≡◌}
 use Prim.Native.Nat.{◌-◌, ◌≤◌}
-use native.Mathlib.Omega.{arith}
-use borrow.Author.Rules.{rules}
 use Rattle.card_wiring.specs.Inner.Wires.{highest}
-use Rattle.card_wiring.proofs.Sweeps.{highest_more}
 use Rattle.card_wiring.proofs.highest_of.Given as goal
 
 abbrev pub invariant-loop-g : goal.invariant-loop-g

@@ -1,14 +1,9 @@
 -- `card_wiring::net_fits` meets its contract. The loop's invariant: the first j pins fit. The measure is what is left of the pins.
 -- Assumes nothing.
 use mathlib.Core.Path.{◌≡◌, sym, ◌∙◌}
-use mathlib.Core.Bool.{true}
-use Prim.Native.Nat.{ℕ, ◌+◌, ◌-◌, ◌*◌, ◌≤◌}
+use Prim.Native.Nat.{◌+◌, ◌*◌}
 use native.Mathlib.Omega.{arith}
 use lib.ListN.{get_or}
-use borrow.Author.Rules.{rules}
-use borrow.Author.Tests.{not-true, not-false}
-use Rattle.lists.specs.Entries.{every}
-use Rattle.lists.specs.Listed.{listed}
 use Rattle.lists.proofs.Tests.{every_no}
 use Rattle.lists.proofs.Listed.{listed_none, in_listed}
 use Rattle.card_wiring.specs.Layout.{pins_at}

@@ -1,17 +1,10 @@
-use mathlib.Core.Path.{◌≡◌, sym, ◌∙◌}
+use mathlib.Core.Path.{◌≡◌}
 use mathlib.Core.Bool.{true}
 use Prim.Native.Nat.{ℕ, ◌+◌, ◌-◌, ◌*◌, ◌≤◌}
-use native.Mathlib.Omega.{arith}
 use lib.ListN.{get_or}
-use borrow.Author.Rules.{rules}
-use borrow.Author.Tests.{not-true, not-false}
 use Rattle.lists.specs.Entries.{every}
 use Rattle.lists.specs.Listed.{listed}
-use Rattle.lists.proofs.Tests.{every_no}
-use Rattle.lists.proofs.Listed.{listed_none, in_listed}
-use Rattle.card_wiring.specs.Layout.{pins_at}
 use Rattle.card_wiring.specs.Wired.{pin_fits}
-use Rattle.card_wiring.proofs.Pins.{every_more}
 use Rattle.card_wiring.proofs.net_fits.Given as goal
 
 abbrev pub invariant-loop-j : goal.invariant-loop-j

@@ -1,11 +1,9 @@
 -- `card_wiring::over_pins` meets its contract. The loop's invariant: `most` is the highest of the first j pins. The measure is what is left
 -- of the pins. Assumes nothing.
 use mathlib.Core.Path.{◌≡◌, sym, ap, ◌∙◌}
-use mathlib.Core.List.{map}
-use Prim.Native.Nat.{ℕ, ◌+◌, ◌-◌, ◌*◌, ◌≤◌}
+use Prim.Native.Nat.{◌+◌, ◌*◌}
 use native.Mathlib.Omega.{arith}
 use lib.ListN.{get_or}
-use borrow.Author.Rules.{rules}
 use Rattle.lists.specs.Listed.{listed}
 use Rattle.lists.proofs.Listed.{listed_none}
 use Rattle.rule.specs.Net.{at_pin}

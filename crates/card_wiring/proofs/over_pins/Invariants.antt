@@ -1,14 +1,9 @@
-use mathlib.Core.Path.{◌≡◌, sym, ap, ◌∙◌}
+use mathlib.Core.Path.{◌≡◌}
 use mathlib.Core.List.{map}
 use Prim.Native.Nat.{ℕ, ◌+◌, ◌-◌, ◌*◌, ◌≤◌}
-use native.Mathlib.Omega.{arith}
 use lib.ListN.{get_or}
-use borrow.Author.Rules.{rules}
 use Rattle.lists.specs.Listed.{listed}
-use Rattle.lists.proofs.Listed.{listed_none}
 use Rattle.rule.specs.Net.{at_pin}
-use Rattle.card_wiring.proofs.Pins.{pin_fitting}
-use Rattle.card_wiring.proofs.Sweeps.{most_more, most_read, over_some}
 use Rattle.card_wiring.proofs.over_pins.Given as goal
 
 abbrev pub invariant-loop-j : goal.invariant-loop-j

@@ -1,12 +1,9 @@
 -- `card_wiring::pcsets` meets its contract. The loop's invariant: the sets are those along the first i gates. The measure is what is left of
 -- the gates. Assumes nothing.
 use mathlib.Core.Path.{◌≡◌, ◌∙◌}
-use Prim.Native.Nat.{ℕ, ◌-◌, ◌≤◌, ◌<◌}
+use Prim.Native.Nat.{◌<◌}
 use native.Mathlib.Omega.{arith}
 use lib.ListN.{get_or}
-use borrow.Author.Rules.{rules}
-use Rattle.lists.specs.Listed.{listed}
-use Rattle.card_wiring.specs.Inner.Wires.{sets_along}
 use Rattle.card_wiring.proofs.Sets.{along_none, along_more}
 use Rattle.card_wiring.proofs.pcsets.Goals as goal
 use Rattle.card_wiring.proofs.pcsets.Goals.{After-wide16-g}

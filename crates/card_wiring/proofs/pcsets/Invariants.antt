@@ -1,11 +1,8 @@
-use mathlib.Core.Path.{◌≡◌, ◌∙◌}
-use Prim.Native.Nat.{ℕ, ◌-◌, ◌≤◌, ◌<◌}
-use native.Mathlib.Omega.{arith}
+use mathlib.Core.Path.{◌≡◌}
+use Prim.Native.Nat.{ℕ, ◌-◌, ◌≤◌}
 use lib.ListN.{get_or}
-use borrow.Author.Rules.{rules}
 use Rattle.lists.specs.Listed.{listed}
 use Rattle.card_wiring.specs.Inner.Wires.{sets_along}
-use Rattle.card_wiring.proofs.Sets.{along_none, along_more}
 use Rattle.card_wiring.proofs.pcsets.Given as goal
 
 abbrev pub invariant-loop-i : goal.invariant-loop-i

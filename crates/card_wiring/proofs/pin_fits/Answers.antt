@@ -1,5 +1,4 @@
 -- `card_wiring::pin_fits` meets its contract: where the number is not below n the second test is the whole. Assumes nothing.
-use borrow.Author.Rules.{rules}
 use borrow.Author.Tests.{lt-ltb, le-ltb}
 use Rattle.rule.proofs.Nets.{open_is}
 use Rattle.card_wiring.proofs.pin_fits.Goals as goal

@@ -2,13 +2,9 @@
 -- of the pins. Assumes nothing.
 use mathlib.Core.Path.{◌≡◌, sym, ap, ◌∙◌}
 use mathlib.Core.Bool.{◌||◌}
-use mathlib.Core.List.{map}
-use Prim.Native.Nat.{ℕ, ◌+◌, ◌-◌, ◌*◌, ◌≤◌}
+use Prim.Native.Nat.{◌+◌, ◌*◌}
 use native.Mathlib.Omega.{arith}
 use lib.ListN.{get_or}
-use borrow.Author.Rules.{rules}
-use Rattle.lists.specs.Entries.{some}
-use Rattle.lists.specs.Listed.{listed}
 use Rattle.lists.proofs.Listed.{listed_none}
 use Rattle.word.specs.Word.{bit}
 use Rattle.word.proofs.Bits.{bit_none}

@@ -1,18 +1,11 @@
-use mathlib.Core.Path.{◌≡◌, sym, ap, ◌∙◌}
-use mathlib.Core.Bool.{◌||◌}
+use mathlib.Core.Path.{◌≡◌}
 use mathlib.Core.List.{map}
 use Prim.Native.Nat.{ℕ, ◌+◌, ◌-◌, ◌*◌, ◌≤◌}
-use native.Mathlib.Omega.{arith}
 use lib.ListN.{get_or}
-use borrow.Author.Rules.{rules}
 use Rattle.lists.specs.Entries.{some}
 use Rattle.lists.specs.Listed.{listed}
-use Rattle.lists.proofs.Listed.{listed_none}
 use Rattle.word.specs.Word.{bit}
-use Rattle.word.proofs.Bits.{bit_none}
 use Rattle.rule.specs.Net.{at_pin}
-use Rattle.card_wiring.proofs.Pins.{pin_fitting, some_more}
-use Rattle.card_wiring.proofs.Sets.{raised_joined}
 use Rattle.card_wiring.proofs.set_of.Given as goal
 
 abbrev pub invariant-loop-j : goal.invariant-loop-j

@@ -1,15 +1,12 @@
 -- `card_wiring::sizes_of` meets its contract. The loop's invariant: `sum` is the sizes of the first i sets, added. The measure is what is left
 -- of the gates. Assumes nothing.
 use mathlib.Core.Path.{◌≡◌, sym, ap, ◌∙◌}
-use Prim.Native.Nat.{ℕ, ◌-◌, ◌*◌, ◌≤◌, ◌<◌}
+use Prim.Native.Nat.{◌<◌}
 use native.Mathlib.Omega.{arith}
 use lib.ListN.{get_or}
-use borrow.Author.Rules.{rules}
-use Rattle.lists.specs.Listed.{listed}
 use Rattle.word.specs.Word.{bit}
 use Rattle.word.specs.Times.{count}
 use Rattle.word.proofs.Sets.{count_le}
-use Rattle.card_wiring.specs.Inner.Wires.{sizes_of}
 use Rattle.card_wiring.proofs.Sets.{sizes_none, sizes_more}
 use Rattle.card_wiring.proofs.sizes_of.Goals as goal
 use Rattle.card_wiring.proofs.sizes_of.Goals.{After-wide16}

@@ -1,14 +1,8 @@
-use mathlib.Core.Path.{◌≡◌, sym, ap, ◌∙◌}
-use Prim.Native.Nat.{ℕ, ◌-◌, ◌*◌, ◌≤◌, ◌<◌}
-use native.Mathlib.Omega.{arith}
+use mathlib.Core.Path.{◌≡◌}
+use Prim.Native.Nat.{ℕ, ◌-◌, ◌*◌, ◌≤◌}
 use lib.ListN.{get_or}
-use borrow.Author.Rules.{rules}
 use Rattle.lists.specs.Listed.{listed}
-use Rattle.word.specs.Word.{bit}
-use Rattle.word.specs.Times.{count}
-use Rattle.word.proofs.Sets.{count_le}
 use Rattle.card_wiring.specs.Inner.Wires.{sizes_of}
-use Rattle.card_wiring.proofs.Sets.{sizes_none, sizes_more}
 use Rattle.card_wiring.proofs.sizes_of.Given as goal
 
 abbrev pub invariant-loop-i : goal.invariant-loop-i

@@ -1,10 +1,6 @@
 -- `card_wiring::source_sets` meets its contract. The loop's invariant: the first g sets are put in, and the rest are cleared. The measure is what is left of n. Assumes nothing.
 use mathlib.Core.Path.{◌≡◌}
-use Prim.Native.Nat.{ℕ, ◌-◌, ◌≤◌}
 use native.Mathlib.Omega.{arith}
-use borrow.Author.Rules.{rules}
-use Rattle.lists.specs.Listed.{listed, upto}
-use Rattle.card_wiring.specs.Inner.Wires.{source_set}
 use Rattle.card_wiring.proofs.Sets.{sources_none, sources_more, sources_all}
 use Rattle.card_wiring.proofs.source_sets.Goals as goal
 

@@ -1,10 +1,7 @@
 use mathlib.Core.Path.{◌≡◌}
 use Prim.Native.Nat.{ℕ, ◌-◌, ◌≤◌}
-use native.Mathlib.Omega.{arith}
-use borrow.Author.Rules.{rules}
 use Rattle.lists.specs.Listed.{listed, upto}
 use Rattle.card_wiring.specs.Inner.Wires.{source_set}
-use Rattle.card_wiring.proofs.Sets.{sources_none, sources_more, sources_all}
 use Rattle.card_wiring.proofs.source_sets.Given as goal
 
 abbrev pub invariant-loop-g : goal.invariant-loop-g

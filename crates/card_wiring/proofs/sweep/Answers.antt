@@ -1,13 +1,9 @@
 -- `card_wiring::sweep` meets its contract. The loop's invariant: the first g nets are swept, and the rest of the array is 0. The measure is
 -- what is left of n. Assumes nothing.
 use mathlib.Core.Path.{◌≡◌, ◌∙◌}
-use Prim.Native.Nat.{ℕ, ◌+◌, ◌-◌, ◌≤◌}
+use Prim.Native.Nat.{◌+◌}
 use native.Mathlib.Omega.{arith}
-use borrow.Author.Rules.{rules}
-use Rattle.lists.specs.Listed.{listed, upto}
 use Rattle.lists.proofs.Listed.{listed_same, upto_none, upto_more}
-use Rattle.rule.specs.Level.{longest}
-use Rattle.card_wiring.specs.Layout.{pins_at}
 use Rattle.card_wiring.proofs.Sweeps.{backs_le, swept, all_swept}
 use Rattle.card_wiring.proofs.sweep.Goals as goal
 

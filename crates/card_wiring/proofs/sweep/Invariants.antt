@@ -1,12 +1,8 @@
-use mathlib.Core.Path.{◌≡◌, ◌∙◌}
+use mathlib.Core.Path.{◌≡◌}
 use Prim.Native.Nat.{ℕ, ◌+◌, ◌-◌, ◌≤◌}
-use native.Mathlib.Omega.{arith}
-use borrow.Author.Rules.{rules}
 use Rattle.lists.specs.Listed.{listed, upto}
-use Rattle.lists.proofs.Listed.{listed_same, upto_none, upto_more}
 use Rattle.rule.specs.Level.{longest}
 use Rattle.card_wiring.specs.Layout.{pins_at}
-use Rattle.card_wiring.proofs.Sweeps.{backs_le, swept, all_swept}
 use Rattle.card_wiring.proofs.sweep.Given as goal
 
 abbrev pub invariant-loop-g : goal.invariant-loop-g

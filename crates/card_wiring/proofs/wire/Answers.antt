@@ -2,8 +2,6 @@
 use mathlib.Core.Path.{◌≡◌, sym, ◌∙◌}
 use mathlib.Core.Bool.{true}
 use native.Mathlib.Omega.{arith}
-use borrow.Author.Rules.{rules}
-use borrow.Author.Tests.{not-true, not-false}
 use Rattle.card_wiring.specs.Inner.Wires.{Fitting, all_fit}
 use Rattle.card_wiring.proofs.Pins.{fitting}
 use Rattle.card_wiring.proofs.Judged.{Counted, wired_unfit, wired_looped, wired_deep, wired_sets}

@@ -1,14 +1,8 @@
-use mathlib.Core.Path.{◌≡◌, sym, ap, ◌∙◌}
-use mathlib.Core.List.{◌++◌, append-nil}
-use Prim.Native.Nat.{◌-◌, ◌≤◌, ◌<◌}
-use native.Mathlib.Omega.{arith}
-use lib.Dec.{eqb}
-use lib.ListN.{get_or}
-use borrow.Author.Rules.{rules}
-use borrow.Author.Tests.{eqb-true}
+use mathlib.Core.Path.{◌≡◌}
+use mathlib.Core.List.{◌++◌}
+use Prim.Native.Nat.{◌-◌, ◌≤◌}
 use Rattle.card_wiring.specs.Inner.Wires.{row, order_of}
 use Rattle.card_wiring.specs.Inner.Wired.{as_order}
-use Rattle.card_wiring.proofs.Orders.{row_more, order_more, order_room, ordered_more}
 use Rattle.card_wiring.proofs.with_level.Given as goal
 
 abbrev pub invariant-loop-g : goal.invariant-loop-g

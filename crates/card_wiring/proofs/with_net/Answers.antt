@@ -1,7 +1,6 @@
 -- `card_wiring::with_net` meets its contract: a net of level l is stored at the end, and any other leaves the order. Assumes nothing.
 use mathlib.Core.Path.{sym, ap}
 use native.Mathlib.Omega.{arith}
-use borrow.Author.Rules.{rules}
 use borrow.Author.Tests.{eq-eqb, ne_eqb}
 use Rattle.card_wiring.specs.Inner.Wired.{with_gate}
 use Rattle.card_wiring.proofs.with_net.Goals as goal

@@ -5,7 +5,6 @@ use mathlib.Core.List.{List}
 use Prim.Native.Nat.{ℕ, ◌≤◌, ◌<◌}
 use native.Mathlib.Omega.{arith}
 use lib.ListN.{get_or}
-use borrow.Author.Rules.{rules}
 use Rattle.lists.specs.Listed.{listed}
 use Rattle.card_wiring.specs.Inner.Wires.{order_of, sets_along, sizes_of}
 use Rattle.card_wiring.proofs.Orders.{ordered_fits, ordered_back}
