@@ -2,7 +2,6 @@
 use mathlib.Core.Path.{ap, ◌∙◌}
 use Prim.Native.Nat.{ℕ}
 use native.Mathlib.Omega.{arith}
-use borrow.Author.Rules.{rules}
 use borrow.Author.Tests.{ne_eqb}
 use Rattle.card_records.specs.Bytes.{body_fits, type_fits, pin_count}
 use Rattle.card_records.proofs.Heads.{gate_length}
@@ -21,4 +20,4 @@ returns-in-3 c = rw c.in-3.is (c.type_fits.ensures ∙ ap (λ (ty : ℕ). type_f
 
 pub returns-in_default : goal.returns-in_default
 unfolding body_fits
-returns-in_default c = rw (ne_eqb _ _ c.in_default.rest.0.1, ne_eqb _ _ c.in_default.rest.1)
+returns-in_default c = rw (ne_eqb _ _ c.in_default.in_default-own.rest.0.1, ne_eqb _ _ c.in_default.in_default-own.rest.1)

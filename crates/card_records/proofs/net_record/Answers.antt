@@ -1,14 +1,13 @@
 -- A net's record: `net_record`, at the kind that the arm names; what is neither an input's nor a constant's is a gate's. Assumes nothing.
 use mathlib.Core.Path.{◌≡◌}
 use native.Mathlib.Omega.{arith}
-use borrow.Author.Rules.{rules}
 use Rattle.card_records.specs.Bytes.{net_record}
 use Rattle.card_records.proofs.Heads.{gate_length, kind_gate}
 use Rattle.card_records.proofs.net_record.Goals as goal
 use Rattle.card_records.proofs.net_record.Goals.{In_default}
 
 gate : (c : In_default) → c.args.kind ≡ 3
-gate c = kind_gate _ _ c.requires.fits c.in_default.rest.0.1 c.in_default.rest.1 c.requires.no_end
+gate c = kind_gate _ _ c.requires.fits c.in_default.in_default-own.rest.0.1 c.in_default.in_default-own.rest.1 c.requires.no_end
 
 pub overflow_sub-result : goal.overflow_sub-result
 overflow_sub-result c = omega (arith, gate_length _ _ c.requires.fits (gate (goal.at.overflow_sub-result c).In_default))

@@ -1,15 +1,14 @@
 -- The card that the bytes mean: the loop keeps `Walk`, and each record ends it or goes on as the walk's laws say. The room for more nets
 -- falls. Assumes nothing.
 use mathlib.Core.Path.{◌≡◌, sym, ap, ◌∙◌}
-use Prim.Native.Nat.{◌-◌, ◌<◌}
+use Prim.Native.Nat.{◌<◌}
 use native.Mathlib.Omega.{arith}
-use borrow.Author.Rules.{rules}
 use Rattle.card_records.specs.declared.Record.TheVariants.{Net}
 use Rattle.card_records.specs.Bytes.{record_read}
 use Rattle.card_records.specs.Scan.{Stops}
 use Rattle.card_records.specs.Inner.Reading.{parsed_of}
 use Rattle.card_records.proofs.Meant.{Meant, meant}
-use Rattle.card_records.proofs.Walk.{Walk, begin, bad, after, full, done, more}
+use Rattle.card_records.proofs.Walk.{begin, bad, after, full, done, more}
 use Rattle.card_records.proofs.parse.Goals as goal
 use Rattle.card_records.proofs.parse.Goals.{Else-n-eq256}
 

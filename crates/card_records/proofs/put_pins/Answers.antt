@@ -1,11 +1,8 @@
 -- A gate's pins, laid at their places: the first j of them are, and each turn lays one more. Assumes nothing.
 use mathlib.Core.Path.{◌≡◌, refl}
-use Prim.Native.Nat.{◌+◌, ◌*◌, ◌-◌, ◌≤◌}
 use native.Mathlib.Omega.{arith}
 use native.Mathlib.Numerals.{add-one}
 use borrow.Author.Rules.{rules}
-use Rattle.card_records.specs.Bytes.{u16_at}
-use Rattle.card_records.specs.Inner.Reading.{laid}
 use Rattle.card_records.proofs.put_pins.Goals as goal
 
 pub loop-j-init : goal.loop-j-init

@@ -1,8 +1,5 @@
-use mathlib.Core.Path.{◌≡◌, refl}
+use mathlib.Core.Path.{◌≡◌}
 use Prim.Native.Nat.{◌+◌, ◌*◌, ◌-◌, ◌≤◌}
-use native.Mathlib.Omega.{arith}
-use native.Mathlib.Numerals.{add-one}
-use borrow.Author.Rules.{rules}
 use Rattle.card_records.specs.Bytes.{u16_at}
 use Rattle.card_records.specs.Inner.Reading.{laid}
 use Rattle.card_records.proofs.put_pins.Given as goal

@@ -1,6 +1,5 @@
 -- Two bytes, the low one first: `u16_at`, by arithmetic over the two bytes read. Assumes nothing.
 use native.Mathlib.Omega.{arith}
-use borrow.Author.Rules.{rules}
 use Rattle.card_records.specs.Bytes.{u16_at}
 use Rattle.card_records.proofs.u16_at.Goals as goal
 

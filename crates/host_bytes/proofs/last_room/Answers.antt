@@ -9,10 +9,8 @@ use Rattle.lists.proofs.Fills.{fill_none, fill_more, fill_all}
 use borrow.Author.Rules.{rules}
 use Rattle.host_bytes.specs.Layout.{last_at}
 use Rattle.host_bytes.specs.Kept.{last_room}
+use Rattle.host_bytes.proofs.last_room.Invariants.{byte_in}
 use Rattle.host_bytes.proofs.last_room.Goals as goal
-
-abbrev byte_in : List ℕ → ℕ → ℕ
-byte_in b i = get_or b (last_at + i) 0
 
 pub loop-i-init : goal.loop-i-init
 loop-i-init c = (omega arith, fill_none (byte_in c.args.b.now) 0 256)

@@ -1,14 +1,9 @@
 -- `inputs::bytes_fit` meets its contract. The loop's invariant: the first i bytes fit. The measure is what is left of the vector.
 -- Assumes nothing.
-use mathlib.Core.Path.{◌≡◌, sym}
-use mathlib.Core.Bool.{true}
-use Prim.Native.Nat.{ℕ, ◌-◌, ◌≤◌}
+use mathlib.Core.Path.{sym}
 use native.Mathlib.Omega.{arith}
-use lib.ListN.{length, get_or}
+use lib.ListN.{get_or}
 use borrow.Author.Tests.{lt-ltb}
-use borrow.Author.Rules.{rules}
-use Rattle.lists.specs.Entries.{every}
-use Rattle.lists.specs.Listed.{listed}
 use Rattle.lists.proofs.Listed.{listed_none}
 use Rattle.card_wiring.proofs.Pins.{every_more}
 use Rattle.inputs.specs.Inputs.{byte_fits}

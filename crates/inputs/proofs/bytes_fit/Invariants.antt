@@ -1,17 +1,10 @@
-use mathlib.Core.Path.{◌≡◌, sym}
+use mathlib.Core.Path.{◌≡◌}
 use mathlib.Core.Bool.{true}
 use Prim.Native.Nat.{ℕ, ◌-◌, ◌≤◌}
-use native.Mathlib.Omega.{arith}
 use lib.ListN.{length, get_or}
-use borrow.Author.Tests.{lt-ltb}
-use borrow.Author.Rules.{rules}
 use Rattle.lists.specs.Entries.{every}
 use Rattle.lists.specs.Listed.{listed}
-use Rattle.lists.proofs.Listed.{listed_none}
-use Rattle.card_wiring.proofs.Pins.{every_more}
 use Rattle.inputs.specs.Inputs.{byte_fits}
-use Rattle.inputs.specs.Allowed.{byte_limit}
-use Rattle.inputs.proofs.Vectors.{all_fit_lem, one_unfit}
 use Rattle.inputs.proofs.bytes_fit.Given as goal
 
 abbrev pub invariant-loop-i : goal.invariant-loop-i

@@ -1,20 +1,12 @@
 -- `inputs::flats` meets its contract. The loop's invariant: the first n words have their values at every time, the rest is 0. The measure
 -- is what is left of 256. Assumes nothing.
-use mathlib.Core.Path.{◌≡◌}
-use mathlib.Core.Bool.{Bool, false}
-use mathlib.Core.List.{List}
-use Prim.Native.Nat.{ℕ, ◌-◌, ◌≤◌}
+use mathlib.Core.Bool.{false}
 use native.Mathlib.Omega.{arith}
 use lib.ListN.{get_or}
-use borrow.Author.Rules.{rules}
-use Rattle.lists.specs.Listed.{listed, upto}
 use Rattle.lists.proofs.Fills.{fill_none, fill_more, fill_all}
-use Rattle.word.specs.Word.{word_of}
 use Rattle.word.proofs.Words.{is_word}
+use Rattle.inputs.proofs.flats.Invariants.{flat}
 use Rattle.inputs.proofs.flats.Goals as goal
-
-abbrev flat : List Bool → ℕ → ℕ
-flat values n = word_of 64 (λ t. get_or values n false)
 
 pub loop-n-init : goal.loop-n-init
 loop-n-init c = (omega arith, fill_none (flat c.args.values.now) 0 256)

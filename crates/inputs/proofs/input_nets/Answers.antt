@@ -1,15 +1,13 @@
 -- `inputs::input_nets` meets its contract. The loop's invariant: j inputs stand ahead of net n, and they are in their places. The measure is what is left of 256.
 -- Assumes nothing.
 use mathlib.Core.Path.{◌≡◌, sym, ap, ◌∙◌}
-use mathlib.Core.Logic.{⊎_elim}
-use Prim.Native.Nat.{ℕ, ◌+◌, ◌-◌, ◌≤◌, ◌<◌}
+use Prim.Native.Nat.{ℕ, ◌+◌, ◌<◌}
 use native.Mathlib.Omega.{arith}
-use borrow.Author.Rules.{rules}
-use Rattle.inputs.specs.Inputs.{rank, input_nets}
+use Rattle.inputs.specs.Inputs.{input_nets}
 use Rattle.inputs.proofs.Vectors.{rank_none, rank_input, rank_other, rank_le}
 use Rattle.inputs.proofs.Nets.{nets_none, nets_input, nets_other}
 use Rattle.inputs.proofs.input_nets.Goals as goal
-use Rattle.inputs.proofs.input_nets.Goals.{Then-kinds-n-eq1}
+use Rattle.inputs.proofs.input_nets.Goals.{then-kinds-n-eq1, else-kinds-n-eq1, Then-kinds-n-eq1}
 
 -- there are not more inputs ahead of a net than nets
 place-there : (c : Then-kinds-n-eq1) → c.loop-n.j < 256
@@ -34,14 +32,14 @@ loop-n-preserved c =
     let a = c.args in
     let l = c.loop-n in (
       omega arith,
-      ⊎_elim
-          (λ w. w.2 ∙ ap (λ (k : ℕ). k + 1) l.invariant.1 ∙ rank_input a.kinds.now l.n w.0.taken)
-          (λ w. w.2 ∙ l.invariant.1 ∙ rank_other a.kinds.now l.n w.0.left)
-          c.if-kinds-n-eq1.branch,
-      ⊎_elim
-          (λ w. w.1 ∙ nets_input a.kinds.now l.n l.j l.nets w.0.taken l.invariant.1 l.invariant.2)
-          (λ w. w.1 ∙ nets_other a.kinds.now l.n l.nets w.0.left l.invariant.2)
-          c.if-kinds-n-eq1.branch,
+      elim c.if-kinds-n-eq1.branch [
+        then-kinds-n-eq1 w ↦ w.j-is ∙ ap (λ (k : ℕ). k + 1) l.invariant.1 ∙ rank_input a.kinds.now l.n w.if-kinds-n-eq1.true
+        | else-kinds-n-eq1 w ↦ w.j-is ∙ l.invariant.1 ∙ rank_other a.kinds.now l.n w.if-kinds-n-eq1.false
+      ],
+      elim c.if-kinds-n-eq1.branch [
+        then-kinds-n-eq1 w ↦ w.nets-is ∙ nets_input a.kinds.now l.n l.j l.nets w.if-kinds-n-eq1.true l.invariant.1 l.invariant.2
+        | else-kinds-n-eq1 w ↦ w.nets-is ∙ nets_other a.kinds.now l.n l.nets w.if-kinds-n-eq1.false l.invariant.2
+      ],
     )
 
 pub returns : goal.returns

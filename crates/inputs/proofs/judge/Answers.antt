@@ -1,8 +1,6 @@
 -- `inputs::judge` meets its contract: its tests are the refusals in their order. Assumes nothing.
 use mathlib.Core.Path.{◌≡◌, sym, ◌∙◌}
 use mathlib.Core.Bool.{true}
-use borrow.Author.Rules.{rules}
-use borrow.Author.Tests.{not-true, not-false}
 use Rattle.inputs.proofs.Verdicts.{not_ready, bad_length, bad_byte, all_pass}
 use Rattle.inputs.proofs.judge.Goals as goal
 use Rattle.inputs.proofs.judge.Goals.{Else-not-ready}

@@ -1,9 +1,8 @@
 -- `inputs::put_inputs` meets its contract. The loop's invariant: the first j bytes are put. The measure is what is left of them. Assumes nothing.
 use mathlib.Core.Path.{◌≡◌, sym, ap, subst, ◌∙◌}
-use Prim.Native.Nat.{◌-◌, ◌≤◌, ◌<◌}
+use Prim.Native.Nat.{◌<◌}
 use native.Mathlib.Omega.{arith}
 use lib.ListN.{length}
-use borrow.Author.Rules.{rules}
 use Rattle.inputs.specs.Inner.Starts.{nets_put, byte_word}
 use Rattle.inputs.proofs.Starts.{put_none, put_more, byte_word_lem}
 use Rattle.inputs.proofs.put_inputs.Goals as goal

@@ -1,10 +1,7 @@
-use mathlib.Core.Path.{◌≡◌, sym, ap, subst, ◌∙◌}
-use Prim.Native.Nat.{◌-◌, ◌≤◌, ◌<◌}
-use native.Mathlib.Omega.{arith}
+use mathlib.Core.Path.{◌≡◌}
+use Prim.Native.Nat.{◌-◌, ◌≤◌}
 use lib.ListN.{length}
-use borrow.Author.Rules.{rules}
 use Rattle.inputs.specs.Inner.Starts.{nets_put, byte_word}
-use Rattle.inputs.proofs.Starts.{put_none, put_more, byte_word_lem}
 use Rattle.inputs.proofs.put_inputs.Given as goal
 
 abbrev pub invariant-loop-j : goal.invariant-loop-j

@@ -1,19 +1,10 @@
 -- `inputs::tops` meets its contract. The loop's invariant: the first n places have the values at 63, the rest is 0. The measure is what is
 -- left of 256. Assumes nothing.
-use mathlib.Core.Path.{◌≡◌}
-use mathlib.Core.Bool.{Bool, false}
-use mathlib.Core.List.{List}
-use Prim.Native.Nat.{ℕ, ◌-◌, ◌≤◌}
+use mathlib.Core.Bool.{false}
 use native.Mathlib.Omega.{arith}
-use lib.ListN.{get_or}
-use borrow.Author.Rules.{rules}
-use Rattle.lists.specs.Listed.{listed, upto}
 use Rattle.lists.proofs.Fills.{fill_none, fill_more, fill_all}
-use Rattle.word.specs.Word.{bit}
+use Rattle.inputs.proofs.tops.Invariants.{top}
 use Rattle.inputs.proofs.tops.Goals as goal
-
-abbrev top : List ℕ → ℕ → Bool
-top words n = bit (get_or words n 0) 63
 
 pub loop-n-init : goal.loop-n-init
 loop-n-init c = (omega arith, fill_none (top c.args.words.now) false 256)

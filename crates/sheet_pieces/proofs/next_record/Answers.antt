@@ -21,14 +21,14 @@ file e = e.args.file.now
 abbrev place : (c : After-entry_at) → ℕ
 place e = e.args.sheet.at
 
-placed : (e : tie.After-entry-at) (x : Entry) → e.entry_at.result ≡ x → Placed (length (file e)) (place e) x
-placed e x g = subst (Placed (length (file e)) (place e)) (sym e.entry_at.ensures ∙ g) (entry_placed (file e) (place e))
+placed : (e : After-entry_at) → (x : Entry) → e.entry_at.result ≡ x → Placed (length ((e.args.file.now))) ((e.args.sheet.at)) x
+placed e x g = subst (Placed (length ((e.args.file.now))) ((e.args.sheet.at))) (sym e.entry_at.ensures ∙ g) (entry_placed ((e.args.file.now)) ((e.args.sheet.at)))
 
 rest-placed : (c : In-Rest) → Placed (length ((c.args.file.now))) ((c.args.sheet.at)) (Rest c.in-Rest.to)
-rest-placed c = placed c.before.before.before _ c.in-Rest.is
+rest-placed c = (let it : (x : Entry) → c.entry_at.result ≡ x → Placed (length ((c.args.file.now))) ((c.args.sheet.at)) x = λ x g. subst (Placed (length ((c.args.file.now))) ((c.args.sheet.at))) (sym c.entry_at.ensures ∙ g) (entry_placed ((c.args.file.now)) ((c.args.sheet.at))) in it) _ c.in-Rest.is
 
 vector-placed : (c : In-Vector) → Placed (length ((c.args.file.now))) ((c.args.sheet.at)) (Vector c.in-Vector.to)
-vector-placed c = placed c.before.before.before _ c.in-Vector.is
+vector-placed c = (let it : (x : Entry) → c.entry_at.result ≡ x → Placed (length ((c.args.file.now))) ((c.args.sheet.at)) x = λ x g. subst (Placed (length ((c.args.file.now))) ((c.args.sheet.at))) (sym c.entry_at.ensures ∙ g) (entry_placed ((c.args.file.now)) ((c.args.sheet.at))) in it) _ c.in-Vector.is
 
 pub overflow_add-from : goal.overflow_add-from
 overflow_add-from c = let p = rest-placed (goal.at.overflow_add-from c).In-Rest in search rules

@@ -38,14 +38,17 @@ pub overflow_add-next : goal.overflow_add-next
 overflow_add-next c = omega (arith, room (goal.at.overflow_add-next c).In-loop-t)
 
 -- what is left then, and its first element
-later : (c : tie.After-least2 invariant-loop decreases-loop) (u : ℕ) → bit c.before.without-least.result.word u ≡ leb ((turn c).loop.t + 1) u && bit (start c).args.set u
+later : (c : After-least-t-in-loop-t) → (u : ℕ) → bit c.without_least-left.result.word u ≡ leb (c.loop-t.t + 1) u && bit c.args.set u
 later c =
-    let l = (turn c).loop in
-    above_from (bit (start c).args.set) (bit l.left.word) _ l.t l.inv.5
-    (λ u. c.before.without-least.ensures u ∙ ap (λ x. ltb x u && bit l.left.word u) (sym l.inv.6))
+    let l = c.loop-t in
+    above_from (bit c.args.set) (bit l.left.word) _ l.t l.inv.5
+    (λ u. c.without_least-left.ensures u ∙ ap (λ x. ltb x u && bit l.left.word u) (sym l.inv.6))
 
 next : (c : After-least-t-in-loop-t) → First (bit c.args.set) (c.loop-t.t + 1) 64 c.least-t-in-loop-t.result
-next c = next_first (bit c.args.set) _ (c.loop-t.t + 1) 64 _ (omega arith) (later c) c.least-t-in-loop-t.ensures
+next c =
+    next_first (bit c.args.set) _ (c.loop-t.t + 1) 64 _ (omega arith) ((let it : (u : ℕ) → bit c.without_least-left.result.word u ≡ leb (c.loop-t.t + 1) u && bit c.args.set u = let l = c.loop-t in
+    above_from (bit c.args.set) (bit l.left.word) _ l.t l.inv.5
+    (λ u. c.without_least-left.ensures u ∙ ap (λ x. ltb x u && bit l.left.word u) (sym l.inv.6)) in it)) c.least-t-in-loop-t.ensures
 
 pub loop-t-smaller : goal.loop-t-smaller
 loop-t-smaller c = omega (arith, (next (goal.at.loop-t-smaller c).After-least-t-in-loop-t).after)

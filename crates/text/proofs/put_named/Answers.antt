@@ -3,10 +3,6 @@ use native.Mathlib.Omega.{arith}
 use lib.ListN.{length-append}
 use Rattle.text.specs.Text.{numbered}
 use Rattle.text.proofs.Texts.{put_then}
-use Rattle.text.proofs.put_named.Reads as reads
-use Rattle.text.proofs.put_named.Lts as lts
-use Rattle.text.proofs.put_number.Reads as put-number-reads
-use Rattle.text.proofs.put_word.Reads as put-word-reads
 use Rattle.text.proofs.put_named.Goals as goal
 
 pub put_word-end-requires : goal.put_word-end-requires

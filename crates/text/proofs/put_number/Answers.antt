@@ -4,10 +4,6 @@ use native.Mathlib.Omega.{arith}
 use lib.ListN.{length-append}
 use Rattle.text.specs.Text.{decimal}
 use Rattle.text.proofs.Texts.{put_then}
-use Rattle.text.proofs.put_number.Reads as reads
-use Rattle.text.proofs.put_number.Lts as lts
-use Rattle.text.proofs.put.Reads as put_reads
-use Rattle.text.proofs.put_decimal.Reads as put-decimal-reads
 use Rattle.text.proofs.put_number.Goals as goal
 
 pub put_decimal-end-requires : goal.put_decimal-end-requires

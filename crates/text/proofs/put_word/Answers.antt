@@ -1,14 +1,7 @@
 -- `text::put_word` meets its contract. The loop's invariant: the first i bytes are put. Assumes nothing.
-use Prim.Native.Nat.{◌-◌, ◌≤◌}
 use native.Mathlib.Omega.{arith}
-use lib.ListN.{length, take}
 use lib.Seq.{length-take-le, take_all}
-use borrow.Author.Rules.{rules}
-use Rattle.text.specs.Inner.Put.{Put}
 use Rattle.text.proofs.Texts.{put_none, put_same, put_more}
-use Rattle.text.proofs.put_word.Reads as reads
-use Rattle.text.proofs.put_word.Lts as lts
-use Rattle.text.proofs.put.Reads as put_reads
 use Rattle.text.proofs.put_word.Goals as goal
 
 pub loop-i-init : goal.loop-i-init

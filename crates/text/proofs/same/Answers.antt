@@ -1,11 +1,7 @@
 -- `text::same` meets its contract: from i on it is the same question. Assumes nothing.
-use mathlib.Core.Path.{◌≡◌, refl, sym, ◌∙◌}
-use Prim.Native.Nat.{◌-◌, ◌≤◌}
+use mathlib.Core.Path.{refl, sym, ◌∙◌}
 use native.Mathlib.Omega.{arith}
-use lib.ListN.{length, drop}
-use Rattle.text.specs.Text.{same_text}
 use Rattle.text.proofs.Texts.{same_lengths, same_stop, same_on, same_end}
-use borrow.Author.Rules.{rules}
 use Rattle.text.proofs.same.Goals as goal
 
 pub returns-then-a-b : goal.returns-then-a-b

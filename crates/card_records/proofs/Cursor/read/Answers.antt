@@ -6,8 +6,6 @@ use mathlib.Core.List.{List}
 use Prim.Native.Nat.{ℕ, ◌+◌, ◌≤◌}
 use native.Mathlib.Omega.{arith}
 use lib.ListN.{length, get_or}
-use borrow.Author.Rules.{rules}
-use borrow.Author.Tests.{not-true, not-false}
 use Rattle.card_records.specs.declared.Record.{Record}
 use Rattle.card_records.specs.declared.Record.TheVariants.{Net}
 use Rattle.card_records.specs.Bytes.{kind_fits, record_read}
@@ -31,9 +29,9 @@ len c = c.u16_at-len.result
 there : (c : After-u16_at-kind) → (c.args.self.at) + 4 ≤ length ((c.args.s.now))
 there c = omega arith
 
-reads : (c : tie.After-u16-at2) (first : ℕ) → first ≡ get_or (bytes c) (place c + 4) 0 → (r : Record)
-    → Found (length (bytes c)) (place c) (kind c) (len c) first r → r ≡ record_read (bytes c) (place c)
-reads c first e r f = read_as (bytes c) (place c) (kind c) (len c) first r c.u16-at2.ensures.0 c.before.u16-at.ensures.0 e f
+reads : (c : After-u16_at-kind) → (first : ℕ) → first ≡ get_or ((c.args.s.now)) ((c.args.self.at) + 4) 0 → (r : Record)
+    → Found (length ((c.args.s.now))) ((c.args.self.at)) ((c.u16_at-kind.result)) ((c.u16_at-len.result)) first r → r ≡ record_read ((c.args.s.now)) ((c.args.self.at))
+reads c first e r f = read_as ((c.args.s.now)) ((c.args.self.at)) ((c.u16_at-kind.result)) ((c.u16_at-len.result)) first r c.u16_at-kind.ensures.0 c.u16_at-len.ensures.0 e f
 
 -- the kind and the length fit, the body is there, and its contents are right
 fits : (c : Else-not-kind_fits) → kind_fits ((c.u16_at-kind.result)) ((c.u16_at-len.result)) ≡ true

@@ -25,5 +25,5 @@ returns-in-5 c =
 
 pub returns-in_default : goal.returns-in_default
 returns-in_default c =
-    let others = c.in_default.rest in
+    let others = c.in_default.in_default-own.rest in
     line_other _ c.if-line-gt140000.false _ c.word_count.ensures others.0.0.0.1 others.0.0.1 others.0.1 others.1

@@ -34,5 +34,5 @@ returns-else-n-next-2 c =
 
 pub returns-in_default : goal.returns-in_default
 returns-in_default c =
-    in_kind _ _ _ _ (omega arith) (λ e. c.in_default.rest.0.1 e) (λ e. c.in_default.rest.1 e)
+    in_kind _ _ _ _ (omega arith) (λ e. c.in_default.in_default-own.rest.0.1 e) (λ e. c.in_default.in_default-own.rest.1 e)
     ∙ entry_as _ _ _ _ c.u16_at-kind.ensures.0 c.u16_at-len.ensures.0

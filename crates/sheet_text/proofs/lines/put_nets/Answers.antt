@@ -10,11 +10,8 @@ use Rattle.text.specs.Inner.Put.{Put}
 use Rattle.text.proofs.Texts.{put_none, put_same}
 use Rattle.sheet_text.specs.Lines.{net_line}
 use Rattle.sheet_text.proofs.Lengths.{lines_more}
+use Rattle.sheet_text.proofs.lines.put_nets.Invariants.{line_in}
 use Rattle.sheet_text.proofs.lines.put_nets.Goals as goal
-
--- a net's line, from the arrays
-abbrev line_in : ℕ → List ℕ → List ℕ → List ℕ → ℕ → List ℕ
-line_in depth words befores flags i = net_line depth i (get_or befores i 0) (get_or words i 0) (get_or flags i 0)
 
 pub loop-i-init : goal.loop-i-init
 loop-i-init c = (omega arith, put_none _ _, omega arith)

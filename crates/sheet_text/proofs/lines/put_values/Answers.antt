@@ -11,11 +11,8 @@ use Rattle.text.specs.Inner.Put.{Put}
 use Rattle.text.proofs.Texts.{put_none, put_same}
 use Rattle.sheet_text.specs.Lines.{values}
 use Rattle.sheet_text.proofs.Lengths.{values_more}
+use Rattle.sheet_text.proofs.lines.put_values.Invariants.{shown}
 use Rattle.sheet_text.proofs.lines.put_values.Goals as goal
-
--- the byte of a value
-abbrev shown : ℕ → ℕ → ℕ
-shown word t = digit (val (bit word t))
 
 pub loop-t-init : goal.loop-t-init
 loop-t-init c = (omega arith, put_same (sym (listed_none _)) (put_none _ _))

@@ -12,6 +12,10 @@ use Rattle.sheet_text.specs.Lines.{values}
 use Rattle.sheet_text.proofs.Lengths.{values_more}
 use Rattle.sheet_text.proofs.lines.put_values.Given as goal
 
+-- the byte of a value
+abbrev pub shown : ℕ → ℕ → ℕ
+shown word t = digit (val (bit word t))
+
 abbrev pub invariant-loop-t : goal.invariant-loop-t
 invariant-loop-t l = (l.t ≤ l.depth + 1) × Put (listed (shown l.word) l.t) l.initial.out l.at l.out l.end
 
