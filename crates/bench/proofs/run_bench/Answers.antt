@@ -14,22 +14,22 @@ use Rattle.bench.proofs.Answers.{list_entry, verdict_is, passed_taken, order_fau
 use Rattle.bench.proofs.run_bench.Goals as goal
 use Rattle.bench.proofs.run_bench.Goals.{After-judge_order-verdict, After-put_list-total, Start}
 
-card : (c : Start) → HasCard c.args.t1
+card : (c : Start) → HasCard c.args.s
 card c = c.requires.good.card (c.requires.good.rest c.requires.rested_value.0).0
 
 -- the list that is put is the card's
-total-is : (c : After-put_list-total) → c.put_list-total.result ≡ length (step_list (card_of c.args.t1))
-total-is c = list_total c.args.t1 ((let it : HasCard c.args.t1 = c.requires.good.card (c.requires.good.rest c.requires.rested_value.0).0 in it)) c.put_list-total.ensures
+total-is : (c : After-put_list-total) → c.put_list-total.result ≡ length (step_list (card_of c.args.s))
+total-is c = list_total c.args.s ((let it : HasCard c.args.s = c.requires.good.card (c.requires.good.rest c.requires.rested_value.0).0 in it)) c.put_list-total.ensures
 
-judged : (c : After-judge_order-verdict) → c.judge_order-verdict.result ≡ order_judged (card_of c.args.t1) c.args.order.now
-judged c = verdict_is c.args.t1 ((let it : HasCard c.args.t1 = c.requires.good.card (c.requires.good.rest c.requires.rested_value.0).0 in it)) c.put_list-total.ensures (search rules) (search rules) c.args.order.now _ c.judge_order-verdict.ensures
+judged : (c : After-judge_order-verdict) → c.judge_order-verdict.result ≡ order_judged (card_of c.args.s) c.args.order.now
+judged c = verdict_is c.args.s ((let it : HasCard c.args.s = c.requires.good.card (c.requires.good.rest c.requires.rested_value.0).0 in it)) c.put_list-total.ensures (search rules) (search rules) c.args.order.now _ c.judge_order-verdict.ensures
 
 pub put_list-total-requires : goal.put_list-total-requires
-put_list-total-requires c = record { gates_bound = list_asked c.args.t1 (card (goal.at.put_list-total-requires c).Start); nets_len = search rules }
+put_list-total-requires c = record { gates_bound = list_asked c.args.s (card (goal.at.put_list-total-requires c).Start); nets_len = search rules }
 
 pub judge_order-verdict-requires : goal.judge_order-verdict-requires
 judge_order-verdict-requires c =
-    let s = c.args.t1 in
+    let s = c.args.s in
     let put = c.put_list-total.ensures in
     record { wires = card_wires s (card (goal.at.judge_order-verdict-requires c).Start); fitting = card_fitting s (card (goal.at.judge_order-verdict-requires c).Start); total_bound = (list_few s (card (goal.at.judge_order-verdict-requires c).Start) put, list_entry s (card (goal.at.judge_order-verdict-requires c).Start) put (search rules) (search rules)) }
 
@@ -46,7 +46,7 @@ returns-then-room-total c =
 
 pub do_first-requires : goal.do_first-requires
 do_first-requires c =
-    record { good = c.requires.good; rested_value = c.requires.rested_value; taken = passed_taken c.args.t1 (card (goal.at.do_first-requires c).Start) c.put_list-total.ensures (search rules) (search rules) c.args.order.now _ c.judge_order-verdict.ensures c.in-Passed.is; first_le_total = (c.if-total-k.false, c.if-room-total.false) }
+    record { good = c.requires.good; rested_value = c.requires.rested_value; taken = passed_taken c.args.s (card (goal.at.do_first-requires c).Start) c.put_list-total.ensures (search rules) (search rules) c.args.order.now _ c.judge_order-verdict.ensures c.in-Passed.is; first_le_total = (c.if-total-k.false, c.if-room-total.false) }
 
 pub returns-in-Refused : goal.returns-in-Refused
 returns-in-Refused c =

@@ -1,7 +1,6 @@
 -- `card::conclude` meets its contract: its answer is the wiring's verdict, and a card that passes is laid into the new session. Assumes nothing.
 use mathlib.Core.Path.{◌∙◌}
 use Rattle.card.proofs.Reading.{conclude_faulty, conclude_passed}
-use borrow.Author.Rules.{rules}
 use Rattle.card.proofs.conclude.Goals as goal
 
 pub returns-in-Refused : goal.returns-in-Refused

@@ -1,11 +1,9 @@
 -- `card::inputs_below` meets its contract: after g nets the count is that of the inputs below g. Assumes nothing.
 use mathlib.Core.Path.{◌≡◌, sym}
-use Prim.Native.Nat.{ℕ, ◌-◌, ◌≤◌}
+use Prim.Native.Nat.{ℕ}
 use native.Mathlib.Omega.{arith}
 use lib.Dec.{eqb}
 use lib.ListN.{get_or}
-use borrow.Author.Rules.{rules}
-use Rattle.word.specs.Times.{count}
 use Rattle.word.proofs.Sets.{count_start, count_le, count_more}
 use Rattle.card.proofs.inputs_below.Goals as goal
 
@@ -16,7 +14,7 @@ pub overflow_add-inputs : goal.overflow_add-inputs
 overflow_add-inputs c =
     let l = c.loop-g in
     let f : ℕ → mathlib.Core.Bool.Bool = λ m. eqb (get_or c.args.kinds.now m 0) 1 in
-    omega (arith, count_le f l.g, Rattle.word.proofs.Words.val-lt (f l.g))
+    omega (arith, count_le f l.g, Rattle.word.proofs.Words.val_lt (f l.g))
 
 pub loop-g-preserved : goal.loop-g-preserved
 loop-g-preserved c =

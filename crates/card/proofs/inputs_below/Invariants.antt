@@ -1,11 +1,8 @@
-use mathlib.Core.Path.{◌≡◌, sym}
-use Prim.Native.Nat.{ℕ, ◌-◌, ◌≤◌}
-use native.Mathlib.Omega.{arith}
+use mathlib.Core.Path.{◌≡◌}
+use Prim.Native.Nat.{◌-◌, ◌≤◌}
 use lib.Dec.{eqb}
 use lib.ListN.{get_or}
-use borrow.Author.Rules.{rules}
 use Rattle.word.specs.Times.{count}
-use Rattle.word.proofs.Sets.{count_start, count_le, count_more}
 use Rattle.card.proofs.inputs_below.Given as goal
 
 abbrev pub invariant-loop-g : goal.invariant-loop-g

@@ -1,7 +1,6 @@
 -- `card::judge` meets its contract: its tests are load's, 9 and then the wiring's verdict. Assumes nothing.
 use mathlib.Core.Path.{◌∙◌}
 use Rattle.card.proofs.Reading.{judge_none, judge_some}
-use borrow.Author.Rules.{rules}
 use Rattle.card.proofs.judge.Goals as goal
 
 pub returns-then-inputs-eq0 : goal.returns-then-inputs-eq0

@@ -3,7 +3,6 @@ use mathlib.Core.Path.{◌∙◌}
 use native.Mathlib.Omega.{arith}
 use Rattle.card_records.specs.Written.{Bytes}
 use Rattle.card.proofs.Reading.{load_stopped, load_wires, load_judged}
-use borrow.Author.Rules.{rules}
 use Rattle.card.proofs.load.Goals as goal
 use Rattle.card.proofs.load.Goals.{After-judge-arg-in-Read-3-1}
 

@@ -2,7 +2,6 @@
 use mathlib.Core.Path.{ap₂, ◌∙◌}
 use mathlib.Core.List.{map}
 use native.Mathlib.Omega.{arith}
-use borrow.Author.Rules.{rules}
 use Rattle.card_wiring.specs.Layout.{pins_at}
 use Rattle.fields.specs.Inner.Fields.{field_of, pin_word}
 use Rattle.fields.proofs.Fields.{field_made}

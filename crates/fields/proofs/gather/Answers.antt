@@ -1,14 +1,13 @@
 -- `fields::gather` meets its contract. The loop's invariant: at every time the word has what the first j pins come to. The measure is what is left
 -- of the eight places. Assumes nothing.
-use mathlib.Core.Path.{◌≡◌, ap, ◌∙◌}
-use Prim.Native.Nat.{ℕ, ◌+◌, ◌-◌, ◌*◌, ◌≤◌}
+use mathlib.Core.Path.{ap, ◌∙◌}
+use Prim.Native.Nat.{◌+◌, ◌*◌}
 use native.Mathlib.Omega.{arith}
 use lib.ListN.{get_or}
-use borrow.Author.Rules.{rules}
 use Rattle.word.specs.Word.{bit}
 use Rattle.rule.specs.Net.{at_pin}
 use Rattle.card_wiring.proofs.Pins.{pin_fitting, first_fitting}
-use Rattle.card_wiring.proofs.Gathered.{first_pins, gather_first, gather_more, gather_all}
+use Rattle.card_wiring.proofs.Gathered.{gather_first, gather_more, gather_all}
 use Rattle.fields.proofs.Fields.{pin_bit}
 use Rattle.fields.proofs.gather.Goals as goal
 

@@ -1,12 +1,7 @@
-use mathlib.Core.Path.{◌≡◌, ap, ◌∙◌}
-use Prim.Native.Nat.{ℕ, ◌+◌, ◌-◌, ◌*◌, ◌≤◌}
-use native.Mathlib.Omega.{arith}
-use lib.ListN.{get_or}
-use borrow.Author.Rules.{rules}
+use mathlib.Core.Path.{◌≡◌}
+use Prim.Native.Nat.{ℕ, ◌-◌, ◌≤◌}
 use Rattle.word.specs.Word.{bit}
-use Rattle.rule.specs.Net.{at_pin}
-use Rattle.card_wiring.proofs.Pins.{pin_fitting, first_fitting}
-use Rattle.card_wiring.proofs.Gathered.{first_pins, gather_first, gather_more, gather_all}
+use Rattle.card_wiring.proofs.Gathered.{first_pins}
 use Rattle.fields.proofs.Fields.{pin_bit}
 use Rattle.fields.proofs.gather.Given as goal
 

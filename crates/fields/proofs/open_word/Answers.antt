@@ -2,7 +2,6 @@
 use mathlib.Core.Path.{◌∙◌}
 use native.Mathlib.Omega.{arith}
 use Rattle.word.proofs.Words.{is_word}
-use borrow.Author.Rules.{rules}
 use Rattle.fields.proofs.open_word.Goals as goal
 
 pub returns : goal.returns

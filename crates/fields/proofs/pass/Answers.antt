@@ -2,15 +2,13 @@
 -- gates. Assumes nothing.
 use mathlib.Core.Path.{◌≡◌, sym, ap, ◌∙◌, subst}
 use mathlib.Core.List.{map}
-use Prim.Native.Nat.{ℕ, ◌-◌, ◌≤◌}
+use Prim.Native.Nat.{ℕ}
 use native.Mathlib.Omega.{arith}
 use lib.ListN.{get_or}
-use borrow.Author.Rules.{rules}
-use Rattle.lists.specs.Listed.{listed}
 use Rattle.card_wiring.specs.Layout.{pins_at}
 use Rattle.card_wiring.specs.Inner.Wires.{Gates}
 use Rattle.inputs.specs.Inner.Starts.{tops_of}
-use Rattle.fields.specs.Inner.Fields.{field_of, pin_word, passed}
+use Rattle.fields.specs.Inner.Fields.{field_of, pin_word}
 use Rattle.fields.proofs.Fields.{passed_none, passed_more, own_top}
 use Rattle.fields.proofs.pass.Goals as goal
 use Rattle.fields.proofs.pass.Goals.{After-wide16-g}

@@ -1,15 +1,9 @@
-use mathlib.Core.Path.{◌≡◌, sym, ap, ◌∙◌, subst}
-use mathlib.Core.List.{map}
+use mathlib.Core.Path.{◌≡◌}
 use Prim.Native.Nat.{ℕ, ◌-◌, ◌≤◌}
-use native.Mathlib.Omega.{arith}
 use lib.ListN.{get_or}
-use borrow.Author.Rules.{rules}
 use Rattle.lists.specs.Listed.{listed}
-use Rattle.card_wiring.specs.Layout.{pins_at}
-use Rattle.card_wiring.specs.Inner.Wires.{Gates}
 use Rattle.inputs.specs.Inner.Starts.{tops_of}
-use Rattle.fields.specs.Inner.Fields.{field_of, pin_word, passed}
-use Rattle.fields.proofs.Fields.{passed_none, passed_more, own_top}
+use Rattle.fields.specs.Inner.Fields.{passed}
 use Rattle.fields.proofs.pass.Given as goal
 
 abbrev pub invariant-loop-i : goal.invariant-loop-i

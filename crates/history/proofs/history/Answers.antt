@@ -14,11 +14,11 @@ use Rattle.history.proofs.history.Goals as goal
 use Rattle.history.proofs.history.Goals.{Else-flags-n}
 
 -- there the session is rested, and has no more nets than the arrays have places
-ready : (c : Else-flags-n) → c.args.t1.rested ≡ true
+ready : (c : Else-flags-n) → c.args.s.rested ≡ true
 ready c = c.if-not-s.false
 
-narrow : (c : Else-flags-n) → c.args.t1.nets ≤ 256
-narrow c = few c.args.t1 (holds c.args.t1 c.requires ((let it : c.args.t1.rested ≡ true = c.if-not-s.false in it)))
+narrow : (c : Else-flags-n) → c.args.s.nets ≤ 256
+narrow c = few c.args.s (holds c.args.s c.requires ((let it : c.args.s.rested ≡ true = c.if-not-s.false in it)))
 
 pub returns-then-not-s : goal.returns-then-not-s
 returns-then-not-s c = let a = c.args in sym (gives_12 a.t1 a.words.now a.befores.now a.flags.now (c.if-not-s.true))

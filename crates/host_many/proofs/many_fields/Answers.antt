@@ -20,12 +20,12 @@ use Rattle.host_many.proofs.many_fields.Goals as goal
 use Rattle.host_many.proofs.many_fields.Goals.{After-advance, After-slice_known-in-loop-done-1, At-loop-done, In-loop-done, Start}
 
 -- a rested session holds a card
-card : (c : Start) → HasCard c.args.t1
+card : (c : Start) → HasCard c.args.s
 card c = c.requires.good.card (c.requires.good.rest c.requires.rested_value.0).0
 
 pub loop-done-init : goal.loop-done-init
 unfolding many_by
-loop-done-init c = let s = c.args.t1 in (omega arith, sym (zero-mul s.inputs), sym (zero-mul s.nets), refl, refl)
+loop-done-init c = let s = c.args.s in (omega arith, sym (zero-mul s.inputs), sym (zero-mul s.nets), refl, refl)
 
 -- where the function began, seen from the loop's head and from a turn
 abbrev first : (l : At-loop-done) → tie.Start invariant-loop decreases-loop
@@ -36,7 +36,7 @@ begun c = (c.before.before.before.before)
 
 -- the bytes of the next vector, and the room for its words, are there
 has : (c : In-loop-done) → (let l = c.loop-done in let a = (((c.before.before.before.before))).args in Turn a.t1 a.vectors.now (length a.room.now) l.done l.from l.at)
-has c = let l = c.loop-done in let a = ((c.before.before.before.before)) in turn_has a.args.t1 _ _ a.args.k l.done _ _ l.invariant.1 l.invariant.2 c.loop-done-test.true a.pre.1.1.0 a.pre.1.1.2
+has c = let l = c.loop-done in let a = ((c.before.before.before.before)) in turn_has a.args.s _ _ a.args.k l.done _ _ l.invariant.1 l.invariant.2 c.loop-done-test.true a.pre.1.1.0 a.pre.1.1.2
 
 -- the room has kept its length
 room-long : (l : At-loop-done) → length l.loop-done.room ≡ length ((l.before.before.before.before)).args.room.now
@@ -53,7 +53,7 @@ pub advance-requires : goal.advance-requires
 advance-requires c =
     let l = c.loop-done in
     let a = begun (goal.at.advance-requires c).In-loop-done in
-    let s = a.args.t1 in
+    let s = a.args.s in
     let h = card a in
     let fits = (has (goal.at.advance-requires c).In-loop-done).bytes_fit in
     let size = ap length (has (goal.at.advance-requires c).In-loop-done).bytes_are ∙ (many_vector a.args.vectors.now s.inputs l.done a.pre.1.0.1 fits).size in
@@ -64,7 +64,7 @@ advance-requires c =
 pub put_words-requires : goal.put_words-requires
 put_words-requires c =
     let i = turn (goal.at.put_words-requires c).After-advance in
-    ((begun i).pre.1.1.1, subst (λ x. i.before.loop.at + (begun i).args.t1.nets ≤ x) (sym (room-long i.before)) (has i).words_there)
+    ((begun i).pre.1.1.1, subst (λ x. i.before.loop.at + (begun i).args.s.nets ≤ x) (sym (room-long i.before)) (has i).words_there)
 
 -- after the words were put: where they were made
 abbrev made : (c : After-slice_known-in-loop-done-1) → tie.After-advance invariant-loop decreases-loop
@@ -81,21 +81,21 @@ loop-done-preserved c =
     let i = turn (made (goal.at.loop-done-preserved c).After-slice_known-in-loop-done-1) in
     let l = i.before.loop in
     let a = begun i in
-    let s = a.args.t1 in
+    let s = a.args.s in
     let vs = a.args.vectors.now in
     let room = a.args.room.now in
     let order = listed (λ k. get_or s.order k 0) s.gates in
     let next =
     (made (goal.at.loop-done-preserved c).After-slice_known-in-loop-done-1).advance.ensures
     ∙ ap (advanced s.feeds s.types s.counts s.places order l.words) (has i).bytes_are
-    ∙ ap (λ ws. advanced s.feeds s.types s.counts s.places order ws (part vs (l.done * s.inputs) s.inputs)) l.inv.3
+    ∙ ap (λ ws. advanced s.feeds s.types s.counts s.places order ws (part vs (l.done * s.inputs) s.inputs)) l.invariant.3
     ∙ next_words s a.pre.0 a.pre.1.0.0 vs room a.pre.1.0.1 l.done (has i).bytes_fit in
     let more = many_more Fields s vs s.inputs l.done room in (
       omega (arith, i.loop-test.taken),
-      place_next l.done s.inputs l.from l.inv.1,
-      place_next l.done s.nets l.at l.inv.2,
+      place_next l.done s.inputs l.from l.invariant.1,
+      place_next l.done s.nets l.at l.invariant.2,
       next ∙ sym (ap (λ x. x.session.words) more),
-      c.put_words.ensures ∙ (λ z. area (l.inv.4 z) (l.inv.2 z) (l.inv.2 z + s.nets) (next z)) ∙ sym (ap (λ x. x.words) more),
+      c.put_words.ensures ∙ (λ z. area (l.invariant.4 z) (l.invariant.2 z) (l.invariant.2 z + s.nets) (next z)) ∙ sym (ap (λ x. x.words) more),
     )
 
 pub shape_of-room : goal.shape_of-room

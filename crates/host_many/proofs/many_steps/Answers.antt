@@ -23,7 +23,7 @@ use Rattle.host_many.proofs.many_steps.Goals as goal
 use Rattle.host_many.proofs.many_steps.Goals.{After-advance-left, After-put_list-total, After-slice_known-in-loop-done-1, At-loop-done, In-loop-done, Start}
 
 -- a rested session holds a card
-card : (c : Start) → HasCard c.args.t1
+card : (c : Start) → HasCard c.args.s
 card c = c.requires.good.card (c.requires.good.rest c.requires.rested_value.0).0
 
 -- where the function began, seen from where it had the list, from the loop's head and from a turn
@@ -40,19 +40,19 @@ abbrev begun : (c : In-loop-done) → tie.Start invariant-loop decreases-loop
 begun c = (at_listed ((c.before.before)))
 
 -- the list that is put is the card's
-ready : (c : After-put_list-total) → ListReady ((c)).args.t1 c.put_list-total.new.0 c.put_list-total.new.1.0 c.put_list-total.result
-ready c = let a = (c) in list_ready a.args.t1 (card a) c.put_list-total.ensures (search rules) (search rules)
+ready : (c : After-put_list-total) → ListReady ((c)).args.s c.put_list-total.new.0 c.put_list-total.new.1.0 c.put_list-total.result
+ready c = let a = (c) in list_ready a.args.s (card a) c.put_list-total.ensures (search rules) (search rules)
 
 pub put_list-total-requires : goal.put_list-total-requires
-put_list-total-requires c = record { gates_bound = list_asked c.args.t1 (card (goal.at.put_list-total-requires c).Start); nets_len = search rules }
+put_list-total-requires c = record { gates_bound = list_asked c.args.s (card (goal.at.put_list-total-requires c).Start); nets_len = search rules }
 
 pub loop-done-init : goal.loop-done-init
 unfolding many_by
-loop-done-init c = let s = (at_listed (goal.at.loop-done-init c).After-put_list-total).args.t1 in (omega arith, sym (zero-mul s.inputs), sym (zero-mul s.nets), refl, refl, refl)
+loop-done-init c = let s = (at_listed (goal.at.loop-done-init c).After-put_list-total).args.s in (omega arith, sym (zero-mul s.inputs), sym (zero-mul s.nets), refl, refl, refl)
 
 -- the bytes of the next vector, and the room for its words, are there
 has : (c : In-loop-done) → (let l = c.loop-done in let a = (((at_listed ((c.before.before))))).args in Turn a.t1 a.vectors.now (length a.room.now) l.done l.from l.at)
-has c = let l = c.loop-done in let a = ((at_listed ((c.before.before)))) in turn_has a.args.t1 _ _ a.args.k l.done _ _ l.invariant.1 l.invariant.2 c.loop-done-test.true a.pre.1.1.0 a.pre.1.1.2
+has c = let l = c.loop-done in let a = ((at_listed ((c.before.before)))) in turn_has a.args.s _ _ a.args.k l.done _ _ l.invariant.1 l.invariant.2 c.loop-done-test.true a.pre.1.1.0 a.pre.1.1.2
 
 -- the room has kept its length
 room-long : (l : At-loop-done) → length l.loop-done.room ≡ length ((at_listed ((l.before.before)))).args.room.now
@@ -69,7 +69,7 @@ pub advance-left-requires : goal.advance-left-requires
 advance-left-requires c =
     let l = c.loop-done in
     let a = begun (goal.at.advance-left-requires c).In-loop-done in
-    let s = a.args.t1 in
+    let s = a.args.s in
     let h = card a in
     let size = ap length (has (goal.at.advance-left-requires c).In-loop-done).bytes_are ∙ (many_vector a.args.vectors.now s.inputs l.done a.pre.1.0.1 (has (goal.at.advance-left-requires c).In-loop-done).bytes_fit).size in
     let fed = feeds_fit s h (take (l.from + s.inputs - l.from) (drop l.from a.args.vectors.now)) size in
@@ -79,7 +79,7 @@ advance-left-requires c =
 pub put_words-requires : goal.put_words-requires
 put_words-requires c =
     let i = turn (goal.at.put_words-requires c).After-advance-left in
-    ((begun i).pre.1.1.1, subst (λ x. i.before.loop.at + (begun i).args.t1.nets ≤ x) (sym (room-long i.before)) (has i).words_there)
+    ((begun i).pre.1.1.1, subst (λ x. i.before.loop.at + (begun i).args.s.nets ≤ x) (sym (room-long i.before)) (has i).words_there)
 
 -- after the words were put: where they were made
 abbrev made : (c : After-slice_known-in-loop-done-1) → tie.After-advance invariant-loop decreases-loop
@@ -99,7 +99,7 @@ loop-done-preserved c =
     let i = turn (made (goal.at.loop-done-preserved c).After-slice_known-in-loop-done-1) in
     let l = i.before.loop in
     let a = begun i in
-    let s = a.args.t1 in
+    let s = a.args.s in
     let vs = a.args.vectors.now in
     let room = a.args.room.now in
     let lent = take (l.from + s.inputs - l.from) (drop l.from vs) in
@@ -107,15 +107,15 @@ loop-done-preserved c =
     (made (goal.at.loop-done-preserved c).After-slice_known-in-loop-done-1).advance.ensures
     ∙ ap (λ ks. stepped s.feeds s.types s.counts s.places s.sets ks l.last lent) (ready (list i.before)).named
     ∙ ap (stepped s.feeds s.types s.counts s.places s.sets (step_list (card_of s)) l.last) (has i).bytes_are
-    ∙ ap (λ ws. stepped s.feeds s.types s.counts s.places s.sets (step_list (card_of s)) ws (part vs (l.done * s.inputs) s.inputs)) l.inv.3
+    ∙ ap (λ ws. stepped s.feeds s.types s.counts s.places s.sets (step_list (card_of s)) ws (part vs (l.done * s.inputs) s.inputs)) l.invariant.3
     ∙ next_stepped s a.pre.0 a.pre.1.0.0 vs room a.pre.1.0.1 l.done (has i).bytes_fit in
     let more = many_more Steps s vs s.inputs l.done room in (
       omega (arith, i.loop-test.taken),
-      place_next l.done s.inputs l.from l.inv.1,
-      place_next l.done s.nets l.at l.inv.2,
+      place_next l.done s.inputs l.from l.invariant.1,
+      place_next l.done s.nets l.at l.invariant.2,
       ap (λ x. x.words) next ∙ sym (ap (λ x. x.session.words) more),
       ap (λ x. x.count) next ∙ sym (ap (λ x. x.count) more),
-      c.put_words.ensures ∙ (λ z. area (l.inv.5 z) (l.inv.2 z) (l.inv.2 z + s.nets) (next z).words) ∙ sym (ap (λ x. x.words) more),
+      c.put_words.ensures ∙ (λ z. area (l.invariant.5 z) (l.invariant.2 z) (l.invariant.2 z + s.nets) (next z).words) ∙ sym (ap (λ x. x.words) more),
     )
 
 pub shape_of-room : goal.shape_of-room

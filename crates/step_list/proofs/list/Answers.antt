@@ -13,25 +13,25 @@ use borrow.Author.Rules.{rules}
 use Rattle.step_list.proofs.list.Goals as goal
 use Rattle.step_list.proofs.list.Goals.{After-put_list-total, Else-not-s}
 
-loaded : (c : Else-not-s) → c.args.t1.loaded ≡ true
+loaded : (c : Else-not-s) → c.args.s.loaded ≡ true
 loaded c = c.if-not-s.false
 
-card : (c : Else-not-s) → HasCard c.args.t1
-card c = c.requires.card ((let it : c.args.t1.loaded ≡ true = c.if-not-s.false in it))
+card : (c : Else-not-s) → HasCard c.args.s
+card c = c.requires.card ((let it : c.args.s.loaded ≡ true = c.if-not-s.false in it))
 
 -- the list that is put has as many entries as the card has steps
-size : (c : After-put_list-total) → c.put_list-total.result ≡ length (step_list (card_of c.args.t1))
-size c = list_total c.args.t1 ((let it : HasCard c.args.t1 = c.requires.card ((let it : c.args.t1.loaded ≡ true = c.if-not-s.false in it)) in it)) c.put_list-total.ensures
+size : (c : After-put_list-total) → c.put_list-total.result ≡ length (step_list (card_of c.args.s))
+size c = list_total c.args.s ((let it : HasCard c.args.s = c.requires.card ((let it : c.args.s.loaded ≡ true = c.if-not-s.false in it)) in it)) c.put_list-total.ensures
 
 few : (c : After-put_list-total) → c.put_list-total.result ≤ 4096
-few c = list_few c.args.t1 ((let it : HasCard c.args.t1 = c.requires.card ((let it : c.args.t1.loaded ≡ true = c.if-not-s.false in it)) in it)) c.put_list-total.ensures
+few c = list_few c.args.s ((let it : HasCard c.args.s = c.requires.card ((let it : c.args.s.loaded ≡ true = c.if-not-s.false in it)) in it)) c.put_list-total.ensures
 
 pub returns-then-not-s : goal.returns-then-not-s
 returns-then-not-s c = let a = c.args in list_none a.t1 a.nets.now a.times.now (c.if-not-s.true)
 
 pub put_list-total-requires : goal.put_list-total-requires
 put_list-total-requires c =
-    record { gates_bound = list_asked c.args.t1 (card (goal.at.put_list-total-requires c).Else-not-s); nets_len = search rules }
+    record { gates_bound = list_asked c.args.s (card (goal.at.put_list-total-requires c).Else-not-s); nets_len = search rules }
 
 pub returns-then-nets-total : goal.returns-then-nets-total
 returns-then-nets-total c =

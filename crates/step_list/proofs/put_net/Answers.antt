@@ -41,14 +41,14 @@ overflow_add-next c = omega (arith, room (goal.at.overflow_add-next c).In-loop-t
 later : (c : After-least-t-in-loop-t) → (u : ℕ) → bit c.without_least-left.result.word u ≡ leb (c.loop-t.t + 1) u && bit c.args.set u
 later c =
     let l = c.loop-t in
-    above_from (bit c.args.set) (bit l.left.word) _ l.t l.inv.5
-    (λ u. c.without_least-left.ensures u ∙ ap (λ x. ltb x u && bit l.left.word u) (sym l.inv.6))
+    above_from (bit c.args.set) (bit l.left.word) _ l.t l.invariant.5
+    (λ u. c.without_least-left.ensures u ∙ ap (λ x. ltb x u && bit l.left.word u) (sym l.invariant.6))
 
 next : (c : After-least-t-in-loop-t) → First (bit c.args.set) (c.loop-t.t + 1) 64 c.least-t-in-loop-t.result
 next c =
     next_first (bit c.args.set) _ (c.loop-t.t + 1) 64 _ (omega arith) ((let it : (u : ℕ) → bit c.without_least-left.result.word u ≡ leb (c.loop-t.t + 1) u && bit c.args.set u = let l = c.loop-t in
-    above_from (bit c.args.set) (bit l.left.word) _ l.t l.inv.5
-    (λ u. c.without_least-left.ensures u ∙ ap (λ x. ltb x u && bit l.left.word u) (sym l.inv.6)) in it)) c.least-t-in-loop-t.ensures
+    above_from (bit c.args.set) (bit l.left.word) _ l.t l.invariant.5
+    (λ u. c.without_least-left.ensures u ∙ ap (λ x. ltb x u && bit l.left.word u) (sym l.invariant.6)) in it)) c.least-t-in-loop-t.ensures
 
 pub loop-t-smaller : goal.loop-t-smaller
 loop-t-smaller c = omega (arith, (next (goal.at.loop-t-smaller c).After-least-t-in-loop-t).after)
@@ -59,12 +59,12 @@ loop-t-preserved c =
     let l = c.loop-t in
     let f = next (goal.at.loop-t-preserved c).After-least-t-in-loop-t in
     let x : l.t + 1 - 1 ≡ l.t = omega arith in
-    let e = times_more a.set a.g l.t l.inv.0 (l.inv.2 (omega arith)) ∙ sym (ap (times_in a.set a.g) x) ∙ times_first a.set a.g (l.t + 1) _ (omega arith) f in (
+    let e = times_more a.set a.g l.t l.invariant.0 (l.invariant.2 (omega arith)) ∙ sym (ap (times_in a.set a.g) x) ∙ times_first a.set a.g (l.t + 1) _ (omega arith) f in (
       omega (arith, f.after),
       f.within,
       f.in_set,
       omega (arith, ap length e, length-append (times_in a.set a.g (l.t - 1)) (record { net = a.g; time = l.t } ∷ [])),
-      holding_same e (holding_more (times_in a.set a.g (l.t - 1)) (record { net = a.g; time = l.t } ∷ []) l.inv.4 c.put_step.ensures),
+      holding_same e (holding_more (times_in a.set a.g (l.t - 1)) (record { net = a.g; time = l.t } ∷ []) l.invariant.4 c.put_step.ensures),
       from_first _ _ (l.t + 1) 64 _ f (later (goal.at.loop-t-preserved c).After-least-t-in-loop-t),
       c.least-t-in-loop-t.ensures,
     )

@@ -1,10 +1,7 @@
 -- `step_orders::entries_fit` meets its contract. The loop's invariant: the first i entries are steps' numbers, each once, and are marked. The
 -- measure is what is left of the order. Assumes nothing.
-use Prim.Native.Nat.{◌-◌, ◌≤◌}
 use native.Mathlib.Omega.{arith}
-use lib.ListN.{length}
-use borrow.Author.Rules.{rules}
-use Rattle.step_orders.proofs.Seen.{Seen, seen_none, seen_more, seen_past, seen_twice, seen_all}
+use Rattle.step_orders.proofs.Seen.{seen_none, seen_more, seen_past, seen_twice, seen_all}
 use Rattle.step_orders.proofs.entries_fit.Goals as goal
 
 pub loop-i-init : goal.loop-i-init

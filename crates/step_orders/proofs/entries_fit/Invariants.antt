@@ -1,8 +1,6 @@
 use Prim.Native.Nat.{◌-◌, ◌≤◌}
-use native.Mathlib.Omega.{arith}
 use lib.ListN.{length}
-use borrow.Author.Rules.{rules}
-use Rattle.step_orders.proofs.Seen.{Seen, seen_none, seen_more, seen_past, seen_twice, seen_all}
+use Rattle.step_orders.proofs.Seen.{Seen}
 use Rattle.step_orders.proofs.entries_fit.Given as goal
 
 abbrev pub invariant-loop-i : goal.invariant-loop-i

@@ -1,8 +1,6 @@
 -- `step_orders::judge_order` meets its contract: its tests are 15, 16, 17 in this order. Assumes nothing.
 use mathlib.Core.Path.{sym, ◌∙◌}
 use mathlib.Core.Bool.{true, false}
-use borrow.Author.Rules.{rules}
-use borrow.Author.Tests.{not-true, not-false}
 use Rattle.step_orders.proofs.Marking.{judged_length, judged_entry, judged_ready, entry_fits}
 use Rattle.step_orders.proofs.judge_order.Goals as goal
 

@@ -1,15 +1,14 @@
 -- `step_orders::order_ready` meets its contract. The loop's invariant: whether all that each step reads is there when it is reached is now asked of
 -- what is left of the order, with the variables that are there now. The measure is what is left of the order. Assumes nothing.
 use mathlib.Core.Path.{◌≡◌, refl, sym, ap, ◌∙◌, subst}
-use Prim.Native.Nat.{◌-◌, ◌≤◌, ◌<◌}
+use Prim.Native.Nat.{◌<◌}
 use native.Mathlib.Omega.{arith}
-use lib.ListN.{length, get_or, drop, replicate}
+use lib.ListN.{get_or}
 use borrow.Author.Rules.{rules}
-use borrow.Author.Tests.{not-true, not-false}
-use Rattle.step_orders.specs.Inner.Ready.{StepEntry, order_steps, ready_in}
+use Rattle.step_orders.specs.Inner.Ready.{StepEntry}
 use Rattle.step_orders.proofs.Marking.{ready_stop, ready_turn, ready_end}
 use Rattle.step_orders.proofs.order_ready.Goals as goal
-use Rattle.step_orders.proofs.order_ready.Goals.{After-narrow-t, After-wide16-e, Else-not-reads_done}
+use Rattle.step_orders.proofs.order_ready.Goals.{After-narrow-t, After-wide16-e, After-wide16-g}
 
 -- the entry that is reached
 entry : (c : After-wide16-e) → StepEntry c.args.nets.now c.args.times.now c.wide16-e.result
@@ -23,7 +22,7 @@ net-is c = c.wide16-g.ensures ∙ ap (λ e. get_or c.args.nets.now e 0) c.wide16
 time-is : (c : After-narrow-t) → c.narrow-t.result ≡ get_or c.args.times.now (get_or c.args.order.now c.loop-i.i 0) 0
 time-is c = c.narrow-t.ensures ∙ ap (λ e. get_or c.args.times.now e 0) c.wide16-e.ensures
 
-placed : (c : Else-not-reads_done) → c.wide16-g.result < 256
+placed : (c : After-wide16-g) → c.wide16-g.result < 256
 placed c =
     let g = c.wide16-g.ensures in omega (arith, ((let it : StepEntry c.args.nets.now c.args.times.now c.wide16-e.result = subst (StepEntry c.args.nets.now c.args.times.now) (sym c.wide16-e.ensures)
     (c.requires.by_index c.loop-i.i c.loop-i-test.true) in it)).net)
@@ -51,31 +50,31 @@ pub returns-then-not-reads_done : goal.returns-then-not-reads_done
 returns-then-not-reads_done c =
     let a = c.args in
     let l = c.loop-i in
-    sym (l.inv.1
+    sym (l.invariant.1
     ∙ ready_stop a.counts.now a.places.now a.sets.now a.nets.now a.times.now a.order.now l.done l.i c.wide16-g.result c.narrow-t.result (omega arith) (net-is (goal.at.returns-then-not-reads_done c).After-narrow-t) (time-is (goal.at.returns-then-not-reads_done c).After-narrow-t)
     (sym c.reads_done.ensures ∙ c.if-not-reads_done.true))
 
 pub offset_bounds-done-g : goal.offset_bounds-done-g
-offset_bounds-done-g c = let h = placed (goal.at.offset_bounds-done-g c).Else-not-reads_done in search rules
+offset_bounds-done-g c = let h = placed (goal.at.offset_bounds-done-g c).After-wide16-g in search rules
 
 pub bounds-done-g : goal.bounds-done-g
-bounds-done-g c = placed (goal.at.bounds-done-g c).Else-not-reads_done
+bounds-done-g c = placed (goal.at.bounds-done-g c).After-wide16-g
 
 pub put-requires : goal.put-requires
 put-requires c = let t = c.narrow-t.ensures in omega (arith, (entry (goal.at.put-requires c).After-wide16-e).time.low)
 
 pub offset_bounds-done-g-in-loop-i : goal.offset_bounds-done-g-in-loop-i
-offset_bounds-done-g-in-loop-i c = let h = placed (goal.at.offset_bounds-done-g-in-loop-i c).Else-not-reads_done in search rules
+offset_bounds-done-g-in-loop-i c = let h = placed (goal.at.offset_bounds-done-g-in-loop-i c).After-wide16-g in search rules
 
 pub bounds-done-g-in-loop-i : goal.bounds-done-g-in-loop-i
-bounds-done-g-in-loop-i c = placed (goal.at.bounds-done-g-in-loop-i c).Else-not-reads_done
+bounds-done-g-in-loop-i c = placed (goal.at.bounds-done-g-in-loop-i c).After-wide16-g
 
 pub loop-i-preserved : goal.loop-i-preserved
 loop-i-preserved c =
     let a = c.args in
     let l = c.loop-i in (
       omega arith,
-      l.inv.1
+      l.invariant.1
           ∙ ready_turn a.counts.now a.places.now a.sets.now a.nets.now a.times.now a.order.now l.done l.i c.wide16-g.result c.narrow-t.result (omega arith) (net-is (goal.at.loop-i-preserved c).After-narrow-t) (time-is (goal.at.loop-i-preserved c).After-narrow-t)
           c.put.result (sym c.reads_done.ensures ∙ c.if-not-reads_done.false) (omega (arith, c.put.type_inv)) c.put.ensures,
     )

@@ -1,11 +1,7 @@
-use mathlib.Core.Path.{◌≡◌, refl, sym, ap, ◌∙◌, subst}
-use Prim.Native.Nat.{◌-◌, ◌≤◌, ◌<◌}
-use native.Mathlib.Omega.{arith}
-use lib.ListN.{length, get_or, drop, replicate}
-use borrow.Author.Rules.{rules}
-use borrow.Author.Tests.{not-true, not-false}
-use Rattle.step_orders.specs.Inner.Ready.{StepEntry, order_steps, ready_in}
-use Rattle.step_orders.proofs.Marking.{ready_stop, ready_turn, ready_end}
+use mathlib.Core.Path.{◌≡◌}
+use Prim.Native.Nat.{◌-◌, ◌≤◌}
+use lib.ListN.{length, drop, replicate}
+use Rattle.step_orders.specs.Inner.Ready.{order_steps, ready_in}
 use Rattle.step_orders.proofs.order_ready.Given as goal
 
 abbrev pub invariant-loop-i : goal.invariant-loop-i

@@ -1,16 +1,10 @@
 -- `step_orders::reads_done` meets its contract. The loop's invariant: what the first j pins read is there. The measure is what is left of the
 -- pins. Assumes nothing.
-use mathlib.Core.Path.{◌≡◌, sym, ◌∙◌}
-use mathlib.Core.Bool.{true}
-use Prim.Native.Nat.{◌-◌, ◌≤◌}
+use mathlib.Core.Path.{sym, ◌∙◌}
 use native.Mathlib.Omega.{arith}
-use borrow.Author.Rules.{rules}
-use borrow.Author.Tests.{not-true, not-false}
-use Rattle.lists.specs.Entries.{every}
-use Rattle.lists.specs.Listed.{listed}
 use Rattle.lists.proofs.Listed.{listed_none}
 use Rattle.card_wiring.proofs.Pins.{every_more, pin_fitting}
-use Rattle.step_orders.proofs.Marking.{pin_done, pin_of, pins_all, pins_not}
+use Rattle.step_orders.proofs.Marking.{pins_all, pins_not}
 use Rattle.step_orders.proofs.reads_done.Goals as goal
 
 pub loop-j-init : goal.loop-j-init

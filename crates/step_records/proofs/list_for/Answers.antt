@@ -14,27 +14,27 @@ use borrow.Author.Rules.{rules}
 use Rattle.step_records.proofs.list_for.Goals as goal
 use Rattle.step_records.proofs.list_for.Goals.{After-put_list-total, Else-not-s}
 
-loaded : (c : Else-not-s) → c.args.t1.loaded ≡ true
+loaded : (c : Else-not-s) → c.args.s.loaded ≡ true
 loaded c = c.if-not-s.false
 
-card : (c : Else-not-s) → HasCard c.args.t1
-card c = c.requires.card ((let it : c.args.t1.loaded ≡ true = c.if-not-s.false in it))
+card : (c : Else-not-s) → HasCard c.args.s
+card c = c.requires.card ((let it : c.args.s.loaded ≡ true = c.if-not-s.false in it))
 
 -- where the list is put: the card, and its list
 abbrev start : (p : After-put_list-total) → tie.Else1
 start p = p.before.before.before.before.before.before
 
-list-size : (p : After-put_list-total) → p.put_list-total.result ≡ length (step_list (card_of ((p.before.before.before.before.before.before)).before.args.t1))
-list-size p = list_total ((p.before.before.before.before.before.before)).before.args.t1 (card ((p.before.before.before.before.before.before))) p.put_list-total.ensures
+list-size : (p : After-put_list-total) → p.put_list-total.result ≡ length (step_list (card_of ((p.before.before.before.before.before.before)).before.args.s))
+list-size p = list_total ((p.before.before.before.before.before.before)).before.args.s (card ((p.before.before.before.before.before.before))) p.put_list-total.ensures
 
 few : (p : After-put_list-total) → p.put_list-total.result ≤ 4096
-few p = list_few ((p.before.before.before.before.before.before)).before.args.t1 (card ((p.before.before.before.before.before.before))) p.put_list-total.ensures
+few p = list_few ((p.before.before.before.before.before.before)).before.args.s (card ((p.before.before.before.before.before.before))) p.put_list-total.ensures
 
 pub returns-then-not-s : goal.returns-then-not-s
 returns-then-not-s c = let a = c.args in c.no_records.ensures ∙ sym (listing_none a.t1 a.room (c.if-not-s.true))
 
 pub put_list-total-requires : goal.put_list-total-requires
-put_list-total-requires c = record { gates_bound = list_asked c.args.t1 (card (goal.at.put_list-total-requires c).Else-not-s); nets_len = search rules }
+put_list-total-requires c = record { gates_bound = list_asked c.args.s (card (goal.at.put_list-total-requires c).Else-not-s); nets_len = search rules }
 
 pub returns-then-room-total : goal.returns-then-room-total
 returns-then-room-total c =

@@ -1,12 +1,11 @@
 -- `step_vars::gather` meets its contract. The loop's invariant: the value is what the first j pins come to. The measure is what is left of the pins.
 -- Assumes nothing.
-use mathlib.Core.Path.{◌≡◌, ap, ◌∙◌}
-use Prim.Native.Nat.{◌+◌, ◌-◌, ◌*◌, ◌≤◌}
+use mathlib.Core.Path.{ap, ◌∙◌}
+use Prim.Native.Nat.{◌+◌, ◌*◌}
 use native.Mathlib.Omega.{arith}
 use lib.ListN.{get_or}
-use borrow.Author.Rules.{rules}
 use Rattle.card_wiring.proofs.Pins.{pin_fitting, first_fitting}
-use Rattle.card_wiring.proofs.Gathered.{first_pins, gather_first, gather_more, gather_all}
+use Rattle.card_wiring.proofs.Gathered.{gather_first, gather_more, gather_all}
 use Rattle.step_vars.specs.Variables.{held_in, read_in}
 use Rattle.step_vars.proofs.Pins.{pin_value}
 use Rattle.step_vars.proofs.gather.Goals as goal

@@ -1,11 +1,6 @@
-use mathlib.Core.Path.{◌≡◌, ap, ◌∙◌}
-use Prim.Native.Nat.{◌+◌, ◌-◌, ◌*◌, ◌≤◌}
-use native.Mathlib.Omega.{arith}
-use lib.ListN.{get_or}
-use borrow.Author.Rules.{rules}
-use Rattle.card_wiring.proofs.Pins.{pin_fitting, first_fitting}
-use Rattle.card_wiring.proofs.Gathered.{first_pins, gather_first, gather_more, gather_all}
-use Rattle.step_vars.specs.Variables.{held_in, read_in}
+use mathlib.Core.Path.{◌≡◌}
+use Prim.Native.Nat.{◌-◌, ◌≤◌}
+use Rattle.card_wiring.proofs.Gathered.{first_pins}
 use Rattle.step_vars.proofs.Pins.{pin_value}
 use Rattle.step_vars.proofs.gather.Given as goal
 

@@ -1,12 +1,8 @@
 -- `step_vars::histories_from` meets its contract. The loop's invariant: the first n words are histories, the rest is 0. The measure is what is
 -- left of 256. Assumes nothing.
-use mathlib.Core.Path.{◌≡◌}
-use Prim.Native.Nat.{ℕ, ◌-◌, ◌≤◌}
 use native.Mathlib.Omega.{arith}
-use Rattle.lists.specs.Listed.{listed, upto}
 use Rattle.lists.proofs.Fills.{fill_none, fill_more, fill_all}
-use Rattle.step_vars.specs.Variables.{history_from, histories_from}
-use borrow.Author.Rules.{rules}
+use Rattle.step_vars.specs.Variables.{histories_from}
 use Rattle.step_vars.proofs.histories_from.Goals as goal
 
 pub loop-n-init : goal.loop-n-init

@@ -1,10 +1,7 @@
 use mathlib.Core.Path.{◌≡◌}
 use Prim.Native.Nat.{ℕ, ◌-◌, ◌≤◌}
-use native.Mathlib.Omega.{arith}
 use Rattle.lists.specs.Listed.{listed, upto}
-use Rattle.lists.proofs.Fills.{fill_none, fill_more, fill_all}
-use Rattle.step_vars.specs.Variables.{history_from, histories_from}
-use borrow.Author.Rules.{rules}
+use Rattle.step_vars.specs.Variables.{history_from}
 use Rattle.step_vars.proofs.histories_from.Given as goal
 
 abbrev pub invariant-loop-n : goal.invariant-loop-n

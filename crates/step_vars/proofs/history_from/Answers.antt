@@ -1,8 +1,6 @@
 -- `step_vars::history_from` meets its contract. The loop's invariant: the filling is s wide. The measure is what is left of 64. Assumes nothing.
-use Prim.Native.Nat.{◌-◌, ◌<◌}
 use native.Mathlib.Omega.{arith}
-use borrow.Author.Rules.{rules}
-use Rattle.step_vars.proofs.Histories.{Wide, wide_one, wider, wide_all}
+use Rattle.step_vars.proofs.Histories.{wide_one, wider, wide_all}
 use Rattle.step_vars.proofs.history_from.Goals as goal
 
 pub loop-s-init : goal.loop-s-init

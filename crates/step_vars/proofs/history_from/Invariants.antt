@@ -1,7 +1,5 @@
 use Prim.Native.Nat.{◌-◌, ◌<◌}
-use native.Mathlib.Omega.{arith}
-use borrow.Author.Rules.{rules}
-use Rattle.step_vars.proofs.Histories.{Wide, wide_one, wider, wide_all}
+use Rattle.step_vars.proofs.Histories.{Wide}
 use Rattle.step_vars.proofs.history_from.Given as goal
 
 abbrev pub invariant-loop-s : goal.invariant-loop-s

@@ -3,7 +3,6 @@ use mathlib.Core.Path.{sym, ◌∙◌}
 use Prim.Native.Nat.{◌<◌}
 use Rattle.rule.proofs.Nets.{open_is}
 use Rattle.step_vars.proofs.Pins.{pin_names, read_open, read_net}
-use borrow.Author.Rules.{rules}
 use Rattle.step_vars.proofs.read_at.Goals as goal
 use Rattle.step_vars.proofs.read_at.Goals.{After-wide16-n}
 

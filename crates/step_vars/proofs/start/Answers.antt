@@ -1,7 +1,6 @@
 -- `step_vars::start` meets its contract: the inputs are put over the before values. Assumes nothing.
 use mathlib.Core.Path.{ap, ◌∙◌}
 use lib.ListN.{length}
-use borrow.Author.Rules.{rules}
 use Rattle.inputs.specs.Inner.Starts.{nets_put, byte_word}
 use Rattle.step_vars.specs.Inner.Variables.{start_in}
 use Rattle.step_vars.proofs.start.Goals as goal

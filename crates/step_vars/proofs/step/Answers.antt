@@ -2,7 +2,6 @@
 use native.Mathlib.Omega.{arith}
 use Rattle.step_vars.proofs.Pins.{value_made}
 use Rattle.step_vars.proofs.Stores.{step_made}
-use borrow.Author.Rules.{rules}
 use Rattle.step_vars.proofs.step.Goals as goal
 
 pub rule_of-rule-requires : goal.rule_of-rule-requires

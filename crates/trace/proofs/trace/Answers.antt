@@ -16,11 +16,11 @@ use Rattle.trace.proofs.trace.Goals as goal
 use Rattle.trace.proofs.trace.Goals.{Else-not-moved_at, Else-t-gt63}
 
 -- there the session is rested, and the net is a place of the arrays
-ready : (c : Else-t-gt63) → c.args.t1.rested ≡ true
+ready : (c : Else-t-gt63) → c.args.s.rested ≡ true
 ready c = c.if-not-s.false
 
 placed : (c : Else-t-gt63) → c.args.n < 256
-placed c = omega (arith, few c.args.t1 (holds c.args.t1 c.requires ((let it : c.args.t1.rested ≡ true = c.if-not-s.false in it))))
+placed c = omega (arith, few c.args.s (holds c.args.s c.requires ((let it : c.args.s.rested ≡ true = c.if-not-s.false in it))))
 
 changed : (c : Else-not-moved_at) → let a = c.args in moved_at a.t1.before a.t1.words a.n a.t ≡ true
 changed c = sym c.moved_at.ensures ∙ c.if-not-moved_at.false
@@ -51,7 +51,7 @@ returns-then-room-length c =
 
 pub net_cause-requires : goal.net_cause-requires
 net_cause-requires c =
-    record { caused = session_caused c.args.t1 (holds c.args.t1 c.requires (ready (goal.at.net_cause-requires c).Else-t-gt63)) (c.requires.rest (ready (goal.at.net_cause-requires c).Else-t-gt63)).1; n_bound = (placed (goal.at.net_cause-requires c).Else-t-gt63, omega (arith, c.if-t-gt63.left), changed (goal.at.net_cause-requires c).Else-not-moved_at, omega (arith, c.if-room-length.left)) }
+    record { caused = session_caused c.args.s (holds c.args.s c.requires (ready (goal.at.net_cause-requires c).Else-t-gt63)) (c.requires.rest (ready (goal.at.net_cause-requires c).Else-t-gt63)).1; n_bound = (placed (goal.at.net_cause-requires c).Else-t-gt63, omega (arith, c.if-t-gt63.left), changed (goal.at.net_cause-requires c).Else-not-moved_at, omega (arith, c.if-room-length.left)) }
 
 pub returns : goal.returns
 returns c =

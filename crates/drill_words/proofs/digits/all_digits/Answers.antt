@@ -1,11 +1,7 @@
 -- Whether every byte is a digit: from i on it is the same question. Assumes nothing.
-use mathlib.Core.Path.{◌≡◌, refl, sym, ◌∙◌}
-use Prim.Native.Nat.{◌-◌, ◌≤◌}
+use mathlib.Core.Path.{refl, sym, ◌∙◌}
 use native.Mathlib.Omega.{arith}
-use lib.ListN.{length, drop}
-use Rattle.drill_words.specs.Digits.{all_digits}
 use Rattle.drill_words.proofs.Spelling.{digits_stop, digits_on, digits_end}
-use borrow.Author.Rules.{rules}
 use Rattle.drill_words.proofs.digits.all_digits.Goals as goal
 
 pub loop-i-init : goal.loop-i-init

@@ -1,10 +1,7 @@
-use mathlib.Core.Path.{◌≡◌, refl, sym, ◌∙◌}
+use mathlib.Core.Path.{◌≡◌}
 use Prim.Native.Nat.{◌-◌, ◌≤◌}
-use native.Mathlib.Omega.{arith}
 use lib.ListN.{length, drop}
 use Rattle.drill_words.specs.Digits.{all_digits}
-use Rattle.drill_words.proofs.Spelling.{digits_stop, digits_on, digits_end}
-use borrow.Author.Rules.{rules}
 use Rattle.drill_words.proofs.digits.all_digits.Given as goal
 
 abbrev pub invariant-loop-i : goal.invariant-loop-i

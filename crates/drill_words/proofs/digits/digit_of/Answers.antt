@@ -3,7 +3,6 @@ use Prim.Native.Nat.{ℕ}
 use native.Mathlib.Omega.{arith}
 use borrow.Author.Tests.{lt-ltb, le-ltb, le-leb, lt-leb}
 use Rattle.drill_words.specs.Digits.{digit_of}
-use borrow.Author.Rules.{rules}
 use Rattle.drill_words.proofs.digits.digit_of.Goals as goal
 
 pub returns-then-b-lt48 : goal.returns-then-b-lt48

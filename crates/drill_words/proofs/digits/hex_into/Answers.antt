@@ -1,12 +1,10 @@
 -- The bytes of a word: after i turns the first i of them stand in the room. Assumes nothing.
 use mathlib.Core.Path.{◌≡◌, refl, subst}
-use Prim.Native.Nat.{◌*◌, ◌-◌, ◌/◌, ◌≤◌}
+use Prim.Native.Nat.{◌/◌}
 use native.Mathlib.Omega.{arith}
-use lib.ListN.{length, drop}
-use Rattle.drill_words.specs.Digits.{bytes_of}
+use lib.ListN.{length}
 use Rattle.drill_words.specs.Filled.{Filled}
-use Rattle.drill_words.proofs.Filling.{Filling, filling_none, hex_more, hex_all}
-use borrow.Author.Rules.{rules}
+use Rattle.drill_words.proofs.Filling.{filling_none, hex_more, hex_all}
 use Rattle.drill_words.proofs.digits.hex_into.Goals as goal
 
 pub loop-i-init : goal.loop-i-init

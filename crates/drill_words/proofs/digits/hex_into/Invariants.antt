@@ -1,11 +1,7 @@
-use mathlib.Core.Path.{◌≡◌, refl, subst}
-use Prim.Native.Nat.{◌*◌, ◌-◌, ◌/◌, ◌≤◌}
-use native.Mathlib.Omega.{arith}
-use lib.ListN.{length, drop}
+use Prim.Native.Nat.{◌*◌, ◌-◌, ◌≤◌}
+use lib.ListN.{drop}
 use Rattle.drill_words.specs.Digits.{bytes_of}
-use Rattle.drill_words.specs.Filled.{Filled}
-use Rattle.drill_words.proofs.Filling.{Filling, filling_none, hex_more, hex_all}
-use borrow.Author.Rules.{rules}
+use Rattle.drill_words.proofs.Filling.{Filling}
 use Rattle.drill_words.proofs.digits.hex_into.Given as goal
 
 abbrev pub invariant-loop-i : goal.invariant-loop-i

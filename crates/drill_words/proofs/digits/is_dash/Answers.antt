@@ -2,7 +2,6 @@
 use borrow.Author.Tests.{eq-eqb, ne_eqb}
 use lib.ListN.{length}
 use Rattle.drill_words.specs.Digits.{is_dash}
-use borrow.Author.Rules.{rules}
 use Rattle.drill_words.proofs.digits.is_dash.Goals as goal
 
 pub returns-then-word-eq1 : goal.returns-then-word-eq1

@@ -2,7 +2,6 @@
 use mathlib.Core.Path.{sym, ◌∙◌}
 use borrow.Author.Tests.{eq-eqb, ne_eqb}
 use Rattle.drill_words.specs.Digits.{is_hex}
-use borrow.Author.Rules.{rules}
 use Rattle.drill_words.proofs.digits.is_hex.Goals as goal
 
 pub returns-then-is_dash : goal.returns-then-is_dash

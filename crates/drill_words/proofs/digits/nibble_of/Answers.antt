@@ -2,7 +2,6 @@
 use native.Mathlib.Omega.{arith}
 use borrow.Author.Tests.{lt-ltb, le-ltb}
 use Rattle.drill_words.specs.Digits.{nibble_of}
-use borrow.Author.Rules.{rules}
 use Rattle.drill_words.proofs.digits.nibble_of.Goals as goal
 
 pub returns-then-d-lt16 : goal.returns-then-d-lt16

@@ -1,12 +1,11 @@
 -- The number that a word spells: that of the digits from i on, after those that spelled `value`. Assumes nothing.
 use mathlib.Core.Path.{◌≡◌, sym, ◌∙◌}
-use Prim.Native.Nat.{◌+◌, ◌*◌, ◌-◌, ◌^◌, ◌≤◌, ◌<◌}
+use Prim.Native.Nat.{◌+◌, ◌*◌, ◌^◌, ◌<◌}
 use native.Mathlib.Omega.{arith}
-use lib.ListN.{length, get_or, drop}
+use lib.ListN.{length, get_or}
 use borrow.Author.Tests.{eq-eqb}
-use Rattle.drill_words.specs.Digits.{digit_of, spelled_from, number_spelled}
+use Rattle.drill_words.specs.Digits.{digit_of, number_spelled}
 use Rattle.drill_words.proofs.Spelling.{number_start, spelled_stop, spelled_over, spelled_on, spelled_end}
-use borrow.Author.Rules.{rules}
 use Rattle.drill_words.proofs.digits.number_of.Goals as goal
 use Rattle.drill_words.proofs.digits.number_of.Goals.{After-wide-d}
 

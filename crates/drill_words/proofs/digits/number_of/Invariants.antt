@@ -1,11 +1,7 @@
-use mathlib.Core.Path.{◌≡◌, sym, ◌∙◌}
-use Prim.Native.Nat.{◌+◌, ◌*◌, ◌-◌, ◌^◌, ◌≤◌, ◌<◌}
-use native.Mathlib.Omega.{arith}
-use lib.ListN.{length, get_or, drop}
-use borrow.Author.Tests.{eq-eqb}
-use Rattle.drill_words.specs.Digits.{digit_of, spelled_from, number_spelled}
-use Rattle.drill_words.proofs.Spelling.{number_start, spelled_stop, spelled_over, spelled_on, spelled_end}
-use borrow.Author.Rules.{rules}
+use mathlib.Core.Path.{◌≡◌}
+use Prim.Native.Nat.{◌-◌, ◌^◌, ◌≤◌, ◌<◌}
+use lib.ListN.{length, drop}
+use Rattle.drill_words.specs.Digits.{spelled_from, number_spelled}
 use Rattle.drill_words.proofs.digits.number_of.Given as goal
 
 abbrev pub invariant-loop-i : goal.invariant-loop-i

@@ -2,7 +2,6 @@
 use mathlib.Core.Path.{sym, ap, ◌∙◌}
 use borrow.Author.Tests.{le-leb, lt-leb}
 use Rattle.drill_words.specs.Digits.{limited}
-use borrow.Author.Rules.{rules}
 use Rattle.drill_words.proofs.digits.room_of.Goals as goal
 
 pub returns-then-n-le20000 : goal.returns-then-n-le20000

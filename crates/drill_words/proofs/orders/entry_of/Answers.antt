@@ -2,7 +2,6 @@
 use mathlib.Core.Path.{sym, ap, ◌∙◌}
 use borrow.Author.Tests.{lt-ltb, le-ltb}
 use Rattle.drill_words.specs.Orders.{order_entry}
-use borrow.Author.Rules.{rules}
 use Rattle.drill_words.proofs.orders.entry_of.Goals as goal
 
 pub returns-then-n-lt65535 : goal.returns-then-n-lt65535

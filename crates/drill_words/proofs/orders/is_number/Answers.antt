@@ -1,7 +1,6 @@
 -- Whether a word spells a number: as it was read. Assumes nothing.
 use mathlib.Core.Path.{sym, ap, ◌∙◌}
 use Rattle.drill_words.specs.Orders.{is_spelled}
-use borrow.Author.Rules.{rules}
 use Rattle.drill_words.proofs.orders.is_number.Goals as goal
 
 pub returns-in-Spelled : goal.returns-in-Spelled

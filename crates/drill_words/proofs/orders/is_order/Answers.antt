@@ -1,13 +1,7 @@
 -- Whether a word is an order: of the entries from `from` on it is the same question. Assumes nothing.
-use mathlib.Core.Path.{◌≡◌, sym, ◌∙◌}
-use Prim.Native.Nat.{◌+◌, ◌-◌, ◌≤◌}
+use mathlib.Core.Path.{sym, ◌∙◌}
 use native.Mathlib.Omega.{arith}
-use lib.ListN.{length}
-use borrow.Author.Tests.{not-true, not-false}
-use Rattle.drill_words.specs.Inner.Parts.{parts_from}
-use Rattle.drill_words.specs.Orders.{all_numbers, is_order}
 use Rattle.drill_words.proofs.Ordering.{dash_order, numbers_start, numbers_stop, numbers_on, numbers_end}
-use borrow.Author.Rules.{rules}
 use Rattle.drill_words.proofs.orders.is_order.Goals as goal
 
 pub returns-then-is_dash : goal.returns-then-is_dash

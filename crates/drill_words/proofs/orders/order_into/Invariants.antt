@@ -1,12 +1,8 @@
-use mathlib.Core.Path.{sym, ◌∙◌}
 use Prim.Native.Nat.{◌+◌, ◌-◌, ◌≤◌}
-use native.Mathlib.Omega.{arith}
 use lib.ListN.{length}
 use Rattle.drill_words.specs.Inner.Parts.{parts_from}
 use Rattle.drill_words.specs.Orders.{entries, order_spelled}
 use Rattle.drill_words.proofs.Filling.{Filling}
-use Rattle.drill_words.proofs.Ordering.{dash_none, entries_start, entries_more, entries_end}
-use borrow.Author.Rules.{rules}
 use Rattle.drill_words.proofs.orders.order_into.Given as goal
 
 abbrev pub invariant-loop-from : goal.invariant-loop-from

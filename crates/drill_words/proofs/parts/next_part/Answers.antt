@@ -1,7 +1,6 @@
 -- Where the next part starts: one past the end of this one. Assumes nothing.
 use native.Mathlib.Omega.{arith}
 use Rattle.drill_words.proofs.Parted.{past_next, end_within, end_next}
-use borrow.Author.Rules.{rules}
 use Rattle.drill_words.proofs.parts.next_part.Goals as goal
 
 pub returns-then-text-from : goal.returns-then-text-from

@@ -1,11 +1,7 @@
 -- Where a part ends: what is left of it from i on has the rest of its length. Assumes nothing.
-use mathlib.Core.Path.{◌≡◌, refl}
-use Prim.Native.Nat.{◌+◌, ◌-◌, ◌≤◌}
+use mathlib.Core.Path.{refl}
 use native.Mathlib.Omega.{arith}
-use lib.ListN.{length, drop}
-use Rattle.drill_words.specs.Parts.{first_part}
 use Rattle.drill_words.proofs.Parted.{first_stop, first_on, first_end}
-use borrow.Author.Rules.{rules}
 use Rattle.drill_words.proofs.parts.part_end.Goals as goal
 
 pub loop-i-init : goal.loop-i-init

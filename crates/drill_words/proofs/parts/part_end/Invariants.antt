@@ -1,10 +1,7 @@
-use mathlib.Core.Path.{◌≡◌, refl}
+use mathlib.Core.Path.{◌≡◌}
 use Prim.Native.Nat.{◌+◌, ◌-◌, ◌≤◌}
-use native.Mathlib.Omega.{arith}
 use lib.ListN.{length, drop}
 use Rattle.drill_words.specs.Parts.{first_part}
-use Rattle.drill_words.proofs.Parted.{first_stop, first_on, first_end}
-use borrow.Author.Rules.{rules}
 use Rattle.drill_words.proofs.parts.part_end.Given as goal
 
 abbrev pub invariant-loop-i : goal.invariant-loop-i

@@ -1,12 +1,7 @@
 -- The word of number k: after i turns the parts from `from` on are the words from i on. Assumes nothing.
 use mathlib.Core.Path.{◌≡◌, ◌∙◌}
-use Prim.Native.Nat.{◌+◌, ◌-◌, ◌≤◌}
 use native.Mathlib.Omega.{arith}
-use lib.ListN.{length, drop}
-use Rattle.drill_words.specs.Parts.{words}
-use Rattle.drill_words.specs.Inner.Parts.{parts_from}
 use Rattle.drill_words.proofs.Parted.{from_start, word_next, word_is}
-use borrow.Author.Rules.{rules}
 use Rattle.drill_words.proofs.parts.word.Goals as goal
 
 pub loop-i-init : goal.loop-i-init

@@ -1,11 +1,8 @@
-use mathlib.Core.Path.{◌≡◌, ◌∙◌}
+use mathlib.Core.Path.{◌≡◌}
 use Prim.Native.Nat.{◌+◌, ◌-◌, ◌≤◌}
-use native.Mathlib.Omega.{arith}
 use lib.ListN.{length, drop}
 use Rattle.drill_words.specs.Parts.{words}
 use Rattle.drill_words.specs.Inner.Parts.{parts_from}
-use Rattle.drill_words.proofs.Parted.{from_start, word_next, word_is}
-use borrow.Author.Rules.{rules}
 use Rattle.drill_words.proofs.parts.word.Given as goal
 
 abbrev pub invariant-loop-i : goal.invariant-loop-i

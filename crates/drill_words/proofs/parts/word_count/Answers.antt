@@ -1,12 +1,7 @@
 -- How many words: one, and one more for each blank passed. Assumes nothing.
-use mathlib.Core.Path.{◌≡◌, refl}
-use mathlib.Core.Logic.{⊎_elim}
-use Prim.Native.Nat.{◌+◌, ◌-◌, ◌≤◌}
+use mathlib.Core.Path.{refl}
 use native.Mathlib.Omega.{arith}
-use lib.ListN.{length, drop}
-use Rattle.drill_words.specs.Parts.{later_parts}
 use Rattle.drill_words.proofs.Parted.{later_stop, later_on, later_end}
-use borrow.Author.Rules.{rules}
 use Rattle.drill_words.proofs.parts.word_count.Goals as goal
 use Rattle.drill_words.proofs.parts.word_count.Goals.{then-line-i-eq32, else-line-i-eq32}
 

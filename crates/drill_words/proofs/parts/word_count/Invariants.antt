@@ -1,11 +1,7 @@
-use mathlib.Core.Path.{◌≡◌, refl}
-use mathlib.Core.Logic.{⊎_elim}
+use mathlib.Core.Path.{◌≡◌}
 use Prim.Native.Nat.{◌+◌, ◌-◌, ◌≤◌}
-use native.Mathlib.Omega.{arith}
 use lib.ListN.{length, drop}
 use Rattle.drill_words.specs.Parts.{later_parts}
-use Rattle.drill_words.proofs.Parted.{later_stop, later_on, later_end}
-use borrow.Author.Rules.{rules}
 use Rattle.drill_words.proofs.parts.word_count.Given as goal
 
 abbrev pub invariant-loop-i : goal.invariant-loop-i
