@@ -88,7 +88,8 @@ pub after_stands : {c : List Net} {inputs : ℕ} {state : ℕ → Bool} {t : Ses
     → Stands c inputs (state_after c state vs) (after t vs)
 unfolding after state_after
 after_stands at [] fits = at
-after_stands at (v ∷ vs) fits = after_stands (vector_stands at v (fits v (Memᴰ.head refl))) vs (λ w m. fits w (Memᴰ.tail m))
+after_stands {c = c} {state = state} at (v ∷ vs) fits =
+    after_stands {state = λ x. value c state (given_to c v) x 63} (vector_stands at v (fits v (Memᴰ.head refl))) vs (λ w m. fits w (Memᴰ.tail m))
 
 after_more : (t : Session) (vs : List (List ℕ)) (v : List ℕ) → after t (vs ++ (v ∷ [])) ≡ (vector_of (after t vs) v).session
 unfolding after

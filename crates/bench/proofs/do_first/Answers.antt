@@ -50,12 +50,12 @@ put_bytes-requires c =
 pub returns-then-first-total : goal.returns-then-first-total
 returns-then-first-total c =
     let a = c.args in
-    part_done a.t1 (card (goal.at.returns-then-first-total c).Start) _ _ a.total a.order.now c.requires.taken a.first c.requires.first_le_total.0 (given a.t1.kinds a.v.now) _ _ _ _ a.room.now _
+    part_done a.s (card (goal.at.returns-then-first-total c).Start) _ _ a.total a.order.now c.requires.taken a.first c.requires.first_le_total.0 (given a.s.kinds a.v.now) _ _ _ _ a.room.now _
     (started (goal.at.returns-then-first-total c).After-start-vars) c.run_order-count.ensures c.among-done.ensures c.put_bytes.ensures c.if-first-total.true
 
 pub returns : goal.returns
 returns c =
     let a = c.args in
-    whole_done a.t1 (card (goal.at.returns c).Start) _ _ a.total a.order.now c.requires.taken a.first c.requires.first_le_total.0 (given a.t1.kinds a.v.now) _ _ _ _ a.room.now _
+    whole_done a.s (card (goal.at.returns c).Start) _ _ a.total a.order.now c.requires.taken a.first c.requires.first_le_total.0 (given a.s.kinds a.v.now) _ _ _ _ a.room.now _
     (started (goal.at.returns c).After-start-vars) c.run_order-count.ensures c.among-done.ensures c.put_bytes.ensures c.if-first-total.false
     _ _ _ (before-is (goal.at.returns c).After-tops-before) c.histories_from-words.ensures c.with_words-next.ensures

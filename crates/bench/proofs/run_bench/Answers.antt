@@ -36,12 +36,12 @@ judge_order-verdict-requires c =
 pub returns-then-total-k : goal.returns-then-total-k
 returns-then-total-k c =
     let a = c.args in
-    order_many a.t1 (given a.t1.kinds a.v.now) a.order.now a.k a.room.now _ (judged (goal.at.returns-then-total-k c).After-judge_order-verdict) c.in-Passed.is _ (total-is (goal.at.returns-then-total-k c).After-put_list-total) _ c.if-total-k.true c.refused-then-total-k.ensures
+    order_many a.s (given a.s.kinds a.v.now) a.order.now a.k a.room.now _ (judged (goal.at.returns-then-total-k c).After-judge_order-verdict) c.in-Passed.is _ (total-is (goal.at.returns-then-total-k c).After-put_list-total) _ c.if-total-k.true c.refused-then-total-k.ensures
 
 pub returns-then-room-total : goal.returns-then-room-total
 returns-then-room-total c =
     let a = c.args in
-    order_short a.t1 (given a.t1.kinds a.v.now) a.order.now a.k a.room.now _ (judged (goal.at.returns-then-room-total c).After-judge_order-verdict) c.in-Passed.is _ (total-is (goal.at.returns-then-room-total c).After-put_list-total) _ c.if-total-k.false c.if-room-total.true
+    order_short a.s (given a.s.kinds a.v.now) a.order.now a.k a.room.now _ (judged (goal.at.returns-then-room-total c).After-judge_order-verdict) c.in-Passed.is _ (total-is (goal.at.returns-then-room-total c).After-put_list-total) _ c.if-total-k.false c.if-room-total.true
     c.refused-then-room-total.ensures
 
 pub do_first-requires : goal.do_first-requires
@@ -51,10 +51,10 @@ do_first-requires c =
 pub returns-in-Refused : goal.returns-in-Refused
 returns-in-Refused c =
     let a = c.args in
-    order_faulty a.t1 (given a.t1.kinds a.v.now) a.order.now a.k a.room.now _ (judged (goal.at.returns-in-Refused c).After-judge_order-verdict) _ _ c.in-Refused.is c.refused.ensures
+    order_faulty a.s (given a.s.kinds a.v.now) a.order.now a.k a.room.now _ (judged (goal.at.returns-in-Refused c).After-judge_order-verdict) _ _ c.in-Refused.is c.refused.ensures
 
 pub returns-else-room-total : goal.returns-else-room-total
 returns-else-room-total c =
     let a = c.args in
-    order_done a.t1 (given a.t1.kinds a.v.now) a.order.now a.k a.room.now _ (judged (goal.at.returns-else-room-total c).After-judge_order-verdict) c.in-Passed.is _ (total-is (goal.at.returns-else-room-total c).After-put_list-total) _ c.if-total-k.false c.if-room-total.false
+    order_done a.s (given a.s.kinds a.v.now) a.order.now a.k a.room.now _ (judged (goal.at.returns-else-room-total c).After-judge_order-verdict) c.in-Passed.is _ (total-is (goal.at.returns-else-room-total c).After-put_list-total) _ c.if-total-k.false c.if-room-total.false
     c.do_first.ensures

@@ -2,10 +2,8 @@
 -- below t. The measure is what is left of 64. Assumes nothing.
 use mathlib.Core.Path.{◌≡◌, refl, sym, ◌∙◌}
 use mathlib.Core.Bool.{not, beq}
-use Prim.Native.Nat.{◌-◌, ◌≤◌}
 use native.Mathlib.Omega.{arith}
-use borrow.Author.Rules.{rules}
-use Rattle.word.specs.Word.{bit, moved_up}
+use Rattle.word.specs.Word.{bit}
 use Rattle.word.proofs.Words.{val_lt}
 use Rattle.word.proofs.Sets.{count_start, count_le}
 use Rattle.rule.specs.Flag.{changed_at}

@@ -1,14 +1,7 @@
-use mathlib.Core.Path.{◌≡◌, refl, sym, ◌∙◌}
-use mathlib.Core.Bool.{not, beq}
+use mathlib.Core.Path.{◌≡◌}
 use Prim.Native.Nat.{◌-◌, ◌≤◌}
-use native.Mathlib.Omega.{arith}
-use borrow.Author.Rules.{rules}
 use Rattle.word.specs.Word.{bit, moved_up}
-use Rattle.word.proofs.Words.{val_lt}
-use Rattle.word.proofs.Sets.{count_start, count_le}
 use Rattle.rule.specs.Flag.{changed_at}
-use Rattle.rule.proofs.Flags.{changes_counted}
-use Rattle.history.proofs.Changes.{one_later, changes_more}
 use Rattle.history.proofs.changes_of.Given as goal
 
 abbrev pub invariant-loop-t : goal.invariant-loop-t

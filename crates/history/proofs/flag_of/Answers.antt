@@ -1,7 +1,6 @@
 -- `history::flag_of` meets its contract: its tests are the flag's. Assumes nothing.
 use mathlib.Core.Path.{sym, ap, ◌∙◌}
 use mathlib.Core.Bool.{beq}
-use borrow.Author.Rules.{rules}
 use Rattle.word.specs.Word.{bit}
 use Rattle.rule.proofs.Flags.{none_is, one_is, many_is}
 use Rattle.history.proofs.flag_of.Goals as goal

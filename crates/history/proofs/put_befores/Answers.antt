@@ -1,13 +1,7 @@
 -- `history::put_befores` meets its contract. The loop's invariant: the first i places are filled. The measure is what is left of n. Assumes nothing.
 use mathlib.Core.Path.{◌≡◌}
-use mathlib.Core.Bool.{false}
-use Prim.Native.Nat.{ℕ, ◌-◌, ◌≤◌}
 use native.Mathlib.Omega.{arith}
-use lib.ListN.{get_or}
-use borrow.Author.Rules.{rules}
-use Rattle.lists.specs.Filled.{filled}
 use Rattle.lists.proofs.Rooms.{filled_none, filled_keeps, filled_turn}
-use Rattle.word.specs.Word.{val}
 use Rattle.history.proofs.put_befores.Goals as goal
 
 pub loop-i-init : goal.loop-i-init

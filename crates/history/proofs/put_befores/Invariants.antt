@@ -1,11 +1,8 @@
 use mathlib.Core.Path.{◌≡◌}
 use mathlib.Core.Bool.{false}
 use Prim.Native.Nat.{ℕ, ◌-◌, ◌≤◌}
-use native.Mathlib.Omega.{arith}
 use lib.ListN.{get_or}
-use borrow.Author.Rules.{rules}
 use Rattle.lists.specs.Filled.{filled}
-use Rattle.lists.proofs.Rooms.{filled_none, filled_keeps, filled_turn}
 use Rattle.word.specs.Word.{val}
 use Rattle.history.proofs.put_befores.Given as goal
 

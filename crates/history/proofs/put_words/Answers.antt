@@ -1,10 +1,6 @@
 -- `history::put_words` meets its contract. The loop's invariant: the first i places are filled. The measure is what is left of n. Assumes nothing.
 use mathlib.Core.Path.{◌≡◌, refl}
-use Prim.Native.Nat.{ℕ, ◌-◌, ◌≤◌}
 use native.Mathlib.Omega.{arith}
-use lib.ListN.{get_or}
-use borrow.Author.Rules.{rules}
-use Rattle.lists.specs.Filled.{filled}
 use Rattle.lists.proofs.Rooms.{filled_none, filled_keeps, filled_turn}
 use Rattle.history.proofs.put_words.Goals as goal
 

@@ -32,10 +32,10 @@ returns-then-len-gt-LONGEST_CARD c =
 pub returns-then-not-is_clear : goal.returns-then-not-is_clear
 returns-then-not-is_clear c =
     let b = c.args.b.now in
-    c.broken_session-then-not-is_clear.ensures ∙ again_unclear b c.if-b-eq0.left (low (goal.at.returns-then-not-is_clear c).After-is_clear-2) (sym (past (goal.at.returns-then-not-is_clear c).After-is_clear-2) ∙ c.if-not-is_clear.true)
+    c.broken_session-then-not-is_clear.ensures ∙ again_unclear b c.if-b-eq0.false (low (goal.at.returns-then-not-is_clear c).After-is_clear-2) (sym (past (goal.at.returns-then-not-is_clear c).After-is_clear-2) ∙ c.if-not-is_clear.true)
 
 pub returns : goal.returns
 returns c =
     let b = c.args.b.now in
     c.made_loaded.ensures ∙ ap (made_loaded b) c.u16_at-len.ensures.0
-    ∙ again_loaded b c.if-b-eq0.left (low (goal.at.returns c).After-is_clear-2) (sym (past (goal.at.returns c).After-is_clear-2) ∙ c.if-not-is_clear.false)
+    ∙ again_loaded b c.if-b-eq0.false (low (goal.at.returns c).After-is_clear-2) (sym (past (goal.at.returns c).After-is_clear-2) ∙ c.if-not-is_clear.false)

@@ -35,12 +35,12 @@ abbrev begun : (c : In-loop-done) → tie.Start invariant-loop decreases-loop
 begun c = (c.before.before.before.before)
 
 -- the bytes of the next vector, and the room for its words, are there
-has : (c : In-loop-done) → (let l = c.loop-done in let a = (((c.before.before.before.before))).args in Turn a.t1 a.vectors.now (length a.room.now) l.done l.from l.at)
+has : (c : In-loop-done) → (let l = c.loop-done in let a = (((c.before.before.before.before))).args in Turn a.s a.vectors.now (length a.room.now) l.done l.from l.at)
 has c = let l = c.loop-done in let a = ((c.before.before.before.before)) in turn_has a.args.s _ _ a.args.k l.done _ _ l.invariant.1 l.invariant.2 c.loop-done-test.true a.pre.1.1.0 a.pre.1.1.2
 
 -- the room has kept its length
 room-long : (l : At-loop-done) → length l.loop-done.room ≡ length ((l.before.before.before.before)).args.room.now
-room-long l = let a = ((l.before.before.before.before)).args in ap length l.loop-done.invariant.4 ∙ many_length Fields a.t1 a.vectors.now a.t1.inputs l.loop-done.done a.room.now
+room-long l = let a = ((l.before.before.before.before)).args in ap length l.loop-done.invariant.4 ∙ many_length Fields a.s a.vectors.now a.s.inputs l.loop-done.done a.room.now
 
 -- after the next words were made: the turn that it is
 abbrev turn : (c : After-advance) → tie.In-loop invariant-loop decreases-loop
@@ -106,4 +106,4 @@ returns c =
     let l = c.loop-done in
     let a = (first (goal.at.returns c).At-loop-done).args in
     let e : l.done ≡ a.k = omega (arith, l.invariant.0, c.loop-done-test.false) in
-    l.invariant.4 ∙ ap (λ j. (many_by Fields a.t1 a.vectors.now a.t1.inputs j a.room.now).words) e
+    l.invariant.4 ∙ ap (λ j. (many_by Fields a.s a.vectors.now a.s.inputs j a.room.now).words) e

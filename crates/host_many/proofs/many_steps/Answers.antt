@@ -51,12 +51,12 @@ unfolding many_by
 loop-done-init c = let s = (at_listed (goal.at.loop-done-init c).After-put_list-total).args.s in (omega arith, sym (zero-mul s.inputs), sym (zero-mul s.nets), refl, refl, refl)
 
 -- the bytes of the next vector, and the room for its words, are there
-has : (c : In-loop-done) → (let l = c.loop-done in let a = (((at_listed ((c.before.before))))).args in Turn a.t1 a.vectors.now (length a.room.now) l.done l.from l.at)
+has : (c : In-loop-done) → (let l = c.loop-done in let a = (((at_listed ((c.before.before))))).args in Turn a.s a.vectors.now (length a.room.now) l.done l.from l.at)
 has c = let l = c.loop-done in let a = ((at_listed ((c.before.before)))) in turn_has a.args.s _ _ a.args.k l.done _ _ l.invariant.1 l.invariant.2 c.loop-done-test.true a.pre.1.1.0 a.pre.1.1.2
 
 -- the room has kept its length
 room-long : (l : At-loop-done) → length l.loop-done.room ≡ length ((at_listed ((l.before.before)))).args.room.now
-room-long l = let a = ((at_listed ((l.before.before)))).args in ap length l.loop-done.invariant.5 ∙ many_length Steps a.t1 a.vectors.now a.t1.inputs l.loop-done.done a.room.now
+room-long l = let a = ((at_listed ((l.before.before)))).args in ap length l.loop-done.invariant.5 ∙ many_length Steps a.s a.vectors.now a.s.inputs l.loop-done.done a.room.now
 
 -- after the next words were made: the turn that it is
 abbrev turn : (c : After-advance-left) → tie.In-loop invariant-loop decreases-loop
@@ -125,6 +125,6 @@ pub returns : goal.returns
 returns c =
     let l = c.loop-done in
     let a = (first (goal.at.returns c).At-loop-done).args in
-    let ran : ℕ → ManyRan = λ j. many_by Steps a.t1 a.vectors.now a.t1.inputs j a.room.now in
+    let ran : ℕ → ManyRan = λ j. many_by Steps a.s a.vectors.now a.s.inputs j a.room.now in
     let e : l.done ≡ a.k = omega (arith, l.invariant.0, c.loop-done-test.false) in
     record { room_after = l.invariant.5 ∙ ap (λ j. (ran j).words) e; value = l.invariant.4 ∙ ap (λ j. (ran j).count) e }

@@ -1,6 +1,5 @@
 -- `session::rest` meets its contract: the vector's verdict decides, and one that fits settles the session. Assumes nothing.
 use mathlib.Core.Path.{sym, ◌∙◌}
-use borrow.Author.Rules.{rules}
 use Rattle.inputs.proofs.Verdicts.{judged_vector}
 use Rattle.session.proofs.Answers.{rest_refused_by, rest_done}
 use Rattle.session.proofs.rest.Goals as goal

@@ -1,7 +1,6 @@
 -- `session::run_fields` meets its contract: the before values are the last values at 63, and the fields from the last words are the rule's histories.
 -- Assumes nothing.
 use mathlib.Core.Path.{◌∙◌}
-use borrow.Author.Rules.{rules}
 use Rattle.card.proofs.Kept.{card_wires, card_fitting}
 use Rattle.card.specs.Held.{HasCard}
 use Rattle.session.specs.Good.{Rested}

@@ -1,7 +1,6 @@
 -- `session::settle` meets its contract: from the constants the fields end in the settled values, and the words are flat. Assumes nothing.
 use mathlib.Core.Path.{ap, ◌∙◌}
 use lib.ListN.{length}
-use borrow.Author.Rules.{rules}
 use Rattle.lists.proofs.Listed.{length_listed}
 use Rattle.card.proofs.Kept.{card_wires, card_fitting}
 use Rattle.card.specs.Held.{HasCard}

@@ -1,6 +1,5 @@
 -- `session::vector` meets its contract: the vector's verdict decides, and one that fits moves the session. Assumes nothing.
 use mathlib.Core.Path.{sym, ◌∙◌}
-use borrow.Author.Rules.{rules}
 use Rattle.inputs.proofs.Verdicts.{judged_vector}
 use Rattle.session.proofs.Answers.{vector_refused_by, vector_done}
 use Rattle.session.proofs.vector.Goals as goal

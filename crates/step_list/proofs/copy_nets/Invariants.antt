@@ -1,7 +1,5 @@
 use Prim.Native.Nat.{◌-◌}
-use native.Mathlib.Omega.{arith}
-use Rattle.lists.proofs.Rooms.{Copied, copied_none, copied_length, copied_more, copied_all}
-use borrow.Author.Rules.{rules}
+use Rattle.lists.proofs.Rooms.{Copied}
 use Rattle.step_list.proofs.copy_nets.Given as goal
 
 abbrev pub invariant-loop-i : goal.invariant-loop-i

@@ -1,8 +1,6 @@
 -- `step_list::copy_times` meets its contract. The loop's invariant: the first i places are filled. The measure is what is left of n. Assumes nothing.
-use Prim.Native.Nat.{◌-◌}
 use native.Mathlib.Omega.{arith}
-use Rattle.lists.proofs.Rooms.{Copied, copied_none, copied_length, copied_more, copied_all}
-use borrow.Author.Rules.{rules}
+use Rattle.lists.proofs.Rooms.{copied_none, copied_length, copied_more, copied_all}
 use Rattle.step_list.proofs.copy_times.Goals as goal
 
 pub loop-i-init : goal.loop-i-init

@@ -3,7 +3,6 @@ use mathlib.Core.Path.{◌≡◌}
 use mathlib.Core.Bool.{true}
 use Prim.Native.Nat.{◌≤◌}
 use lib.ListN.{length}
-use borrow.Author.Tests.{not-true, not-false}
 use Rattle.rule.specs.Steps.{step_list}
 use Rattle.card.specs.Session.{card_of}
 use Rattle.card.specs.Held.{HasCard}
@@ -27,7 +26,7 @@ few : (c : After-put_list-total) → c.put_list-total.result ≤ 4096
 few c = list_few c.args.s ((let it : HasCard c.args.s = c.requires.card ((let it : c.args.s.loaded ≡ true = c.if-not-s.false in it)) in it)) c.put_list-total.ensures
 
 pub returns-then-not-s : goal.returns-then-not-s
-returns-then-not-s c = let a = c.args in list_none a.t1 a.nets.now a.times.now (c.if-not-s.true)
+returns-then-not-s c = let a = c.args in list_none a.s a.nets.now a.times.now (c.if-not-s.true)
 
 pub put_list-total-requires : goal.put_list-total-requires
 put_list-total-requires c =
@@ -36,21 +35,21 @@ put_list-total-requires c =
 pub returns-then-nets-total : goal.returns-then-nets-total
 returns-then-nets-total c =
     let a = c.args in
-    list_short_nets a.t1 a.nets.now a.times.now (loaded (goal.at.returns-then-nets-total c).Else-not-s) c.put_list-total.result (size (goal.at.returns-then-nets-total c).After-put_list-total) c.if-nets-total.true
+    list_short_nets a.s a.nets.now a.times.now (loaded (goal.at.returns-then-nets-total c).Else-not-s) c.put_list-total.result (size (goal.at.returns-then-nets-total c).After-put_list-total) c.if-nets-total.true
 
 pub returns-then-times-total : goal.returns-then-times-total
 returns-then-times-total c =
     let a = c.args in
-    list_short_times a.t1 a.nets.now a.times.now (loaded (goal.at.returns-then-times-total c).Else-not-s) c.put_list-total.result (size (goal.at.returns-then-times-total c).After-put_list-total) c.if-nets-total.false c.if-times-total.true
+    list_short_times a.s a.nets.now a.times.now (loaded (goal.at.returns-then-times-total c).Else-not-s) c.put_list-total.result (size (goal.at.returns-then-times-total c).After-put_list-total) c.if-nets-total.false c.if-times-total.true
 
 pub copy_nets-requires : goal.copy_nets-requires
 copy_nets-requires c = (few (goal.at.copy_nets-requires c).After-put_list-total, c.if-nets-total.false)
 
 pub copy_times-requires : goal.copy_times-requires
-copy_times-requires c = (few (goal.at.copy_times-requires c).After-put_list-total, c.if-times-total.left)
+copy_times-requires c = (few (goal.at.copy_times-requires c).After-put_list-total, c.if-times-total.false)
 
 pub returns : goal.returns
 returns c =
     let a = c.args in
-    list_full a.t1 a.nets.now a.times.now (loaded (goal.at.returns c).Else-not-s) c.put_list-total.result (list_held a.t1 (card (goal.at.returns c).Else-not-s) c.put_list-total.ensures)
-    (search rules) (search rules) (few (goal.at.returns c).After-put_list-total) c.if-nets-total.left c.if-times-total.left _ _ c.copy_nets.ensures c.copy_times.ensures
+    list_full a.s a.nets.now a.times.now (loaded (goal.at.returns c).Else-not-s) c.put_list-total.result (list_held a.s (card (goal.at.returns c).Else-not-s) c.put_list-total.ensures)
+    (search rules) (search rules) (few (goal.at.returns c).After-put_list-total) c.if-nets-total.false c.if-times-total.false _ _ c.copy_nets.ensures c.copy_times.ensures

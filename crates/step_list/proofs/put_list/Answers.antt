@@ -2,12 +2,11 @@
 -- the gates. Assumes nothing.
 use mathlib.Core.Path.{◌≡◌, sym, ap, ◌∙◌}
 use mathlib.Core.List.{◌++◌}
-use Prim.Native.Nat.{◌-◌, ◌≤◌, ◌<◌}
+use Prim.Native.Nat.{◌<◌}
 use native.Mathlib.Omega.{arith}
 use lib.ListN.{get_or}
-use Rattle.step_list.specs.Inner.Listing.{times_in, steps_in, gates_in, Holds}
+use Rattle.step_list.specs.Inner.Listing.{times_in, steps_in, gates_in}
 use Rattle.step_list.proofs.Lists.{hold_none, hold_same, steps_none, steps_more, steps_room}
-use borrow.Author.Rules.{rules}
 use Rattle.step_list.proofs.put_list.Goals as goal
 use Rattle.step_list.proofs.put_list.Goals.{After-wide16-g}
 

@@ -1,18 +1,16 @@
 -- `step_list::put_net` meets its contract. The loop's invariant: t is the next element, or 64, what is left of the set begins there, and the steps at times
 -- below t stand in the list. The measure is what is left of 64. Assumes nothing.
 use mathlib.Core.Path.{◌≡◌, sym, ap, ◌∙◌}
-use mathlib.Core.Bool.{true, ◌&&◌}
+use mathlib.Core.Bool.{◌&&◌}
 use mathlib.Core.List.{[], ◌∷◌}
-use Prim.Native.Nat.{ℕ, ◌+◌, ◌-◌, ◌≤◌, ◌<◌}
+use Prim.Native.Nat.{ℕ, ◌+◌, ◌-◌, ◌<◌}
 use native.Mathlib.Omega.{arith}
 use lib.Dec.{leb, ltb}
 use lib.ListN.{length, length-append}
 use Rattle.word.specs.Word.{bit}
-use Rattle.word.specs.Times.{least}
 use Rattle.word.proofs.Sets.{First, next_first, from_first, above_from}
-use Rattle.step_list.specs.Inner.Listing.{times_in, Adds}
+use Rattle.step_list.specs.Inner.Listing.{times_in}
 use Rattle.step_list.proofs.Lists.{holding_none, holding_more, holding_same, times_none, times_more, times_first, times_room}
-use borrow.Author.Rules.{rules}
 use Rattle.step_list.proofs.put_net.Goals as goal
 use Rattle.step_list.proofs.put_net.Goals.{After-least-t-in-loop-t, In-loop-t}
 

@@ -1,16 +1,11 @@
-use mathlib.Core.Path.{◌≡◌, sym, ap, ◌∙◌}
+use mathlib.Core.Path.{◌≡◌}
 use mathlib.Core.Bool.{true, ◌&&◌}
-use mathlib.Core.List.{[], ◌∷◌}
 use Prim.Native.Nat.{ℕ, ◌+◌, ◌-◌, ◌≤◌, ◌<◌}
-use native.Mathlib.Omega.{arith}
-use lib.Dec.{leb, ltb}
-use lib.ListN.{length, length-append}
+use lib.Dec.{leb}
+use lib.ListN.{length}
 use Rattle.word.specs.Word.{bit}
 use Rattle.word.specs.Times.{least}
-use Rattle.word.proofs.Sets.{First, next_first, from_first, above_from}
 use Rattle.step_list.specs.Inner.Listing.{times_in, Adds}
-use Rattle.step_list.proofs.Lists.{holding_none, holding_more, holding_same, times_none, times_more, times_first, times_room}
-use borrow.Author.Rules.{rules}
 use Rattle.step_list.proofs.put_net.Given as goal
 
 abbrev pub invariant-loop-t : goal.invariant-loop-t

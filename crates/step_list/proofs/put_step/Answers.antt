@@ -1,7 +1,6 @@
 -- One step more stands in the list. Assumes nothing.
 use native.Mathlib.Omega.{arith}
 use Rattle.step_list.proofs.Lists.{hold_put}
-use borrow.Author.Rules.{rules}
 use Rattle.step_list.proofs.put_step.Goals as goal
 
 pub returns : goal.returns

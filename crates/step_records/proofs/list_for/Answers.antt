@@ -31,7 +31,7 @@ few : (p : After-put_list-total) → p.put_list-total.result ≤ 4096
 few p = list_few ((p.before.before.before.before.before.before)).before.args.s (card ((p.before.before.before.before.before.before))) p.put_list-total.ensures
 
 pub returns-then-not-s : goal.returns-then-not-s
-returns-then-not-s c = let a = c.args in c.no_records.ensures ∙ sym (listing_none a.t1 a.room (c.if-not-s.true))
+returns-then-not-s c = let a = c.args in c.no_records.ensures ∙ sym (listing_none a.s a.room (c.if-not-s.true))
 
 pub put_list-total-requires : goal.put_list-total-requires
 put_list-total-requires c = record { gates_bound = list_asked c.args.s (card (goal.at.put_list-total-requires c).Else-not-s); nets_len = search rules }
@@ -39,7 +39,7 @@ put_list-total-requires c = record { gates_bound = list_asked c.args.s (card (go
 pub returns-then-room-total : goal.returns-then-room-total
 returns-then-room-total c =
     let a = (start (goal.at.returns-then-room-total c).After-put_list-total).before.args in
-    c.no_records-then-room-total.ensures ∙ sym (listing_short a.t1 a.room (loaded (start (goal.at.returns-then-room-total c).After-put_list-total)) (omega (arith, list-size (goal.at.returns-then-room-total c).After-put_list-total, c.if-room-total.true)))
+    c.no_records-then-room-total.ensures ∙ sym (listing_short a.s a.room (loaded (start (goal.at.returns-then-room-total c).After-put_list-total)) (omega (arith, list-size (goal.at.returns-then-room-total c).After-put_list-total, c.if-room-total.true)))
 
 pub records_of-records-requires : goal.records_of-records-requires
 records_of-records-requires c = few (goal.at.records_of-records-requires c).After-put_list-total
@@ -47,5 +47,5 @@ records_of-records-requires c = few (goal.at.records_of-records-requires c).Afte
 pub returns : goal.returns
 returns c =
     let a = (start (goal.at.returns c).After-put_list-total).before.args in
-    listing_made a.t1 a.room (list_held a.t1 (card (start (goal.at.returns c).After-put_list-total)) c.put_list-total.ensures) (search rules) (search rules) (few (goal.at.returns c).After-put_list-total)
+    listing_made a.s a.room (list_held a.s (card (start (goal.at.returns c).After-put_list-total)) c.put_list-total.ensures) (search rules) (search rules) (few (goal.at.returns c).After-put_list-total)
     (loaded (start (goal.at.returns c).After-put_list-total)) c.if-room-total.false _ c.records_of-records.ensures

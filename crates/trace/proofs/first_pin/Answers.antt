@@ -1,11 +1,9 @@
 -- `trace::first_pin` meets its contract. The loop's invariant: none of the first j pins changed. The measure is what is left of the pins.
 -- Assumes nothing.
-use mathlib.Core.Path.{◌≡◌, sym, ◌∙◌}
-use mathlib.Core.Bool.{false}
-use Prim.Native.Nat.{ℕ, ◌+◌, ◌-◌, ◌*◌, ◌≤◌, ◌<◌}
+use mathlib.Core.Path.{sym, ◌∙◌}
+use Prim.Native.Nat.{◌+◌, ◌*◌}
 use native.Mathlib.Omega.{arith}
 use lib.ListN.{get_or}
-use borrow.Author.Rules.{rules}
 use Rattle.lists.proofs.Listed.{in_listed}
 use Rattle.rule.proofs.Nets.{open_is}
 use Rattle.trace.specs.Inner.Caused.{moved_at}

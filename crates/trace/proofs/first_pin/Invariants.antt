@@ -1,13 +1,8 @@
-use mathlib.Core.Path.{◌≡◌, sym, ◌∙◌}
+use mathlib.Core.Path.{◌≡◌}
 use mathlib.Core.Bool.{false}
 use Prim.Native.Nat.{ℕ, ◌+◌, ◌-◌, ◌*◌, ◌≤◌, ◌<◌}
-use native.Mathlib.Omega.{arith}
 use lib.ListN.{get_or}
-use borrow.Author.Rules.{rules}
-use Rattle.lists.proofs.Listed.{in_listed}
-use Rattle.rule.proofs.Nets.{open_is}
 use Rattle.trace.specs.Inner.Caused.{moved_at}
-use Rattle.trace.proofs.FirstPins.{none_more, first_none, first_here}
 use Rattle.trace.proofs.first_pin.Given as goal
 
 abbrev pub invariant-loop-j : goal.invariant-loop-j

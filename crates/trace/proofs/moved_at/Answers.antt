@@ -3,7 +3,6 @@ use mathlib.Core.Path.{refl, ◌∙◌}
 use mathlib.Core.Bool.{false}
 use native.Mathlib.Omega.{arith}
 use lib.ListN.{get_or}
-use borrow.Author.Rules.{rules}
 use Rattle.word.specs.Word.{bit}
 use Rattle.trace.proofs.Moves.{changed_first, changed_later, moved_net}
 use Rattle.trace.proofs.moved_at.Goals as goal

@@ -2,7 +2,6 @@
 use mathlib.Core.Path.{sym, ap, ◌∙◌}
 use mathlib.Core.Logic.{⊎_elim}
 use native.Mathlib.Omega.{arith}
-use borrow.Author.Rules.{rules}
 use Rattle.trace.specs.Inner.Caused.{moved_at}
 use Rattle.trace.proofs.Moves.{moved_open}
 use Rattle.trace.proofs.pin_moved.Goals as goal

@@ -22,19 +22,19 @@ ready c = c.if-not-s.false
 placed : (c : Else-t-gt63) → c.args.n < 256
 placed c = omega (arith, few c.args.s (holds c.args.s c.requires ((let it : c.args.s.rested ≡ true = c.if-not-s.false in it))))
 
-changed : (c : Else-not-moved_at) → let a = c.args in moved_at a.t1.before a.t1.words a.n a.t ≡ true
+changed : (c : Else-not-moved_at) → let a = c.args in moved_at a.s.before a.s.words a.n a.t ≡ true
 changed c = sym c.moved_at.ensures ∙ c.if-not-moved_at.false
 
 pub returns-then-not-s : goal.returns-then-not-s
-returns-then-not-s c = let a = c.args in sym (gives_12 a.t1 a.n a.t a.room.now (c.if-not-s.true))
+returns-then-not-s c = let a = c.args in sym (gives_12 a.s a.n a.t a.room.now (c.if-not-s.true))
 
 pub returns-then-s-n : goal.returns-then-s-n
-returns-then-s-n c = let a = c.args in sym (gives_13 a.t1 a.n a.t a.room.now (c.if-not-s.false) c.if-s-n.true)
+returns-then-s-n c = let a = c.args in sym (gives_13 a.s a.n a.t a.room.now (c.if-not-s.false) c.if-s-n.true)
 
 pub returns-then-t-gt63 : goal.returns-then-t-gt63
 returns-then-t-gt63 c =
     let a = c.args in
-    sym (gives_14 a.t1 a.n a.t a.room.now (c.if-not-s.false) (omega arith) (late_then a.t1 a.n a.t (omega arith)))
+    sym (gives_14 a.s a.n a.t a.room.now (c.if-not-s.false) (omega arith) (late_then a.s a.n a.t (omega arith)))
 
 pub moved_at-requires : goal.moved_at-requires
 moved_at-requires c = (placed (goal.at.moved_at-requires c).Else-t-gt63, omega arith)
@@ -42,19 +42,19 @@ moved_at-requires c = (placed (goal.at.moved_at-requires c).Else-t-gt63, omega a
 pub returns-then-not-moved_at : goal.returns-then-not-moved_at
 returns-then-not-moved_at c =
     let a = c.args in
-    sym (gives_14 a.t1 a.n a.t a.room.now (ready (goal.at.returns-then-not-moved_at c).Else-t-gt63) (omega arith) (changed_then_lem a.t1 a.n a.t (omega arith) false (sym c.moved_at.ensures ∙ c.if-not-moved_at.true)))
+    sym (gives_14 a.s a.n a.t a.room.now (ready (goal.at.returns-then-not-moved_at c).Else-t-gt63) (omega arith) (changed_then_lem a.s a.n a.t (omega arith) false (sym c.moved_at.ensures ∙ c.if-not-moved_at.true)))
 
 pub returns-then-room-length : goal.returns-then-room-length
 returns-then-room-length c =
     let a = c.args in
-    sym (gives_18 a.t1 a.n a.t a.room.now (ready (goal.at.returns-then-room-length c).Else-t-gt63) (omega arith) (changed_then_lem a.t1 a.n a.t (omega arith) true (changed (goal.at.returns-then-room-length c).Else-not-moved_at)) (omega arith))
+    sym (gives_18 a.s a.n a.t a.room.now (ready (goal.at.returns-then-room-length c).Else-t-gt63) (omega arith) (changed_then_lem a.s a.n a.t (omega arith) true (changed (goal.at.returns-then-room-length c).Else-not-moved_at)) (omega arith))
 
 pub net_cause-requires : goal.net_cause-requires
 net_cause-requires c =
-    record { caused = session_caused c.args.s (holds c.args.s c.requires (ready (goal.at.net_cause-requires c).Else-t-gt63)) (c.requires.rest (ready (goal.at.net_cause-requires c).Else-t-gt63)).1; n_bound = (placed (goal.at.net_cause-requires c).Else-t-gt63, omega (arith, c.if-t-gt63.left), changed (goal.at.net_cause-requires c).Else-not-moved_at, omega (arith, c.if-room-length.left)) }
+    record { caused = session_caused c.args.s (holds c.args.s c.requires (ready (goal.at.net_cause-requires c).Else-t-gt63)) (c.requires.rest (ready (goal.at.net_cause-requires c).Else-t-gt63)).1; n_bound = (placed (goal.at.net_cause-requires c).Else-t-gt63, omega (arith, c.if-t-gt63.false), changed (goal.at.net_cause-requires c).Else-not-moved_at, omega (arith, c.if-room-length.false)) }
 
 pub returns : goal.returns
 returns c =
     let a = c.args in
-    traced a.t1 a.n a.t a.room.now (ready (goal.at.returns c).Else-t-gt63) (omega (arith, c.if-s-n.left)) (changed_then_lem a.t1 a.n a.t (omega (arith, c.if-t-gt63.left)) true (changed (goal.at.returns c).Else-not-moved_at))
-    (omega (arith, c.if-room-length.left)) _ (c.net_cause.ensures (card_of a.t1) (card_pins a.t1 (holds a.t1 c.requires (ready (goal.at.returns c).Else-t-gt63))))
+    traced a.s a.n a.t a.room.now (ready (goal.at.returns c).Else-t-gt63) (omega (arith, c.if-s-n.false)) (changed_then_lem a.s a.n a.t (omega (arith, c.if-t-gt63.false)) true (changed (goal.at.returns c).Else-not-moved_at))
+    (omega (arith, c.if-room-length.false)) _ (c.net_cause.ensures (card_of a.s) (card_pins a.s (holds a.s c.requires (ready (goal.at.returns c).Else-t-gt63))))

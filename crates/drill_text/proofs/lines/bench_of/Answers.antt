@@ -1,5 +1,4 @@
 -- The last two words of `bench`: as their numbers were read. Assumes nothing.
-use borrow.Author.Rules.{rules}
 use Rattle.drill_text.proofs.lines.bench_of.Goals as goal
 
 pub returns : goal.returns

@@ -1,7 +1,6 @@
 -- What a line asks for: `command_of`, at the number of its words. Assumes nothing.
 use mathlib.Core.Path.{sym, ◌∙◌}
 use Rattle.drill_text.proofs.Asking.{line_long, line_two, line_three, line_four, line_five, line_other}
-use borrow.Author.Rules.{rules}
 use Rattle.drill_text.proofs.lines.command_of.Goals as goal
 
 pub returns-then-line-gt140000 : goal.returns-then-line-gt140000

@@ -1,5 +1,4 @@
 -- `history WORDS BEFORES FLAGS`: as its numbers were read. Assumes nothing.
-use borrow.Author.Rules.{rules}
 use Rattle.drill_text.proofs.lines.history_of.Goals as goal
 
 pub returns : goal.returns

@@ -1,6 +1,5 @@
 -- A command that takes bytes: as the test of its word. Assumes nothing.
 use mathlib.Core.Path.{sym, ◌∙◌}
-use borrow.Author.Rules.{rules}
 use Rattle.drill_text.proofs.lines.if_hex.Goals as goal
 
 pub returns-then-is_hex : goal.returns-then-is_hex

@@ -1,5 +1,4 @@
 -- `list NETS TIMES`: as its numbers were read. Assumes nothing.
-use borrow.Author.Rules.{rules}
 use Rattle.drill_text.proofs.lines.list_of.Goals as goal
 
 pub returns : goal.returns

@@ -1,5 +1,4 @@
 -- `net N`: as its number was read. Assumes nothing.
-use borrow.Author.Rules.{rules}
 use Rattle.drill_text.proofs.lines.net_of.Goals as goal
 
 pub returns-in-Spelled : goal.returns-in-Spelled

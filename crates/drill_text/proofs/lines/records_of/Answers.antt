@@ -1,5 +1,4 @@
 -- `records ROOM`: as its number was read. Assumes nothing.
-use borrow.Author.Rules.{rules}
 use Rattle.drill_text.proofs.lines.records_of.Goals as goal
 
 pub returns-in-Spelled : goal.returns-in-Spelled

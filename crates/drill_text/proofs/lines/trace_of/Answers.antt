@@ -1,5 +1,4 @@
 -- `trace N TIME ROOM`: as its numbers were read. Assumes nothing.
-use borrow.Author.Rules.{rules}
 use Rattle.drill_text.proofs.lines.trace_of.Goals as goal
 
 pub returns : goal.returns

@@ -1,8 +1,6 @@
 -- A line of five words: `with_four`, at the tests that led there. Assumes nothing.
 use mathlib.Core.Path.{sym, ap₂, ◌∙◌}
-use borrow.Author.Tests.{not-true, not-false}
 use Rattle.drill_text.specs.Lines.{as_bench, with_four}
-use borrow.Author.Rules.{rules}
 use Rattle.drill_text.proofs.lines.with_four.Goals as goal
 
 pub returns-then-not-same : goal.returns-then-not-same

@@ -3,7 +3,6 @@ use mathlib.Core.Path.{◌≡◌, sym, ap, ◌∙◌}
 use mathlib.Core.Bool.{false}
 use Rattle.text.specs.Text.{same_text}
 use Rattle.drill_text.specs.Lines.{load, rest, vector, steps, records, net, as_records, as_net, with_one}
-use borrow.Author.Rules.{rules}
 use Rattle.drill_text.proofs.lines.with_one.Goals as goal
 use Rattle.drill_text.proofs.lines.with_one.Goals.{Else-same, Else-same-2, Else-same-3, Else-same-4, Else-same-5, Else-same-6}
 

@@ -1,7 +1,6 @@
 -- A line of four words: `with_three`, at the names that it was compared with. Assumes nothing.
 use mathlib.Core.Path.{sym, ◌∙◌}
 use Rattle.drill_text.specs.Lines.{with_three}
-use borrow.Author.Rules.{rules}
 use Rattle.drill_text.proofs.lines.with_three.Goals as goal
 
 pub returns-then-same : goal.returns-then-same

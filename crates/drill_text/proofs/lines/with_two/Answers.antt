@@ -1,7 +1,6 @@
 -- A line of three words: `with_two`, at the name that it was compared with. Assumes nothing.
 use mathlib.Core.Path.{sym, ap₂, ◌∙◌}
 use Rattle.drill_text.specs.Lines.{as_list, with_two}
-use borrow.Author.Rules.{rules}
 use Rattle.drill_text.proofs.lines.with_two.Goals as goal
 
 pub returns-then-same : goal.returns-then-same
