@@ -1,6 +1,5 @@
 -- `step_run::advance` meets its contract: the variables start as the contract says, and are 256 words. Assumes nothing.
 use mathlib.Core.Path.{◌≡◌, sym, ap, subst, ◌∙◌}
-use borrow.Author.Rules.{rules}
 use Rattle.inputs.specs.Inner.Starts.{tops_of}
 use Rattle.step_vars.specs.Variables.{histories_from}
 use Rattle.step_vars.specs.Inner.Variables.{Words, start_in}

@@ -1,14 +1,11 @@
 -- `step_run::run_list` meets its contract. The loop's invariant: the variables and the count are what the first `done` steps leave. The measure is
 -- what is left of the steps. Assumes nothing.
 use mathlib.Core.Path.{◌≡◌, ap, ◌∙◌}
-use Prim.Native.Nat.{◌-◌, ◌≤◌}
 use native.Mathlib.Omega.{arith}
-use Rattle.step_vars.specs.Inner.Variables.{Words}
 use Rattle.step_vars.proofs.Stores.{step_words}
 use Rattle.step_list.specs.Inner.Listing.{numbered_step, steps_named}
 use Rattle.step_run.specs.Runs.{ran}
 use Rattle.step_run.proofs.Runs.{doable_at, ran_none, ran_more}
-use borrow.Author.Rules.{rules}
 use Rattle.step_run.proofs.run_list.Goals as goal
 
 pub loop-done-init : goal.loop-done-init

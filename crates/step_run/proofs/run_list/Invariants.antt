@@ -1,12 +1,8 @@
-use mathlib.Core.Path.{◌≡◌, ap, ◌∙◌}
+use mathlib.Core.Path.{◌≡◌}
 use Prim.Native.Nat.{◌-◌, ◌≤◌}
-use native.Mathlib.Omega.{arith}
 use Rattle.step_vars.specs.Inner.Variables.{Words}
-use Rattle.step_vars.proofs.Stores.{step_words}
-use Rattle.step_list.specs.Inner.Listing.{numbered_step, steps_named}
+use Rattle.step_list.specs.Inner.Listing.{steps_named}
 use Rattle.step_run.specs.Runs.{ran}
-use Rattle.step_run.proofs.Runs.{doable_at, ran_none, ran_more}
-use borrow.Author.Rules.{rules}
 use Rattle.step_run.proofs.run_list.Given as goal
 
 abbrev pub invariant-loop-done : goal.invariant-loop-done

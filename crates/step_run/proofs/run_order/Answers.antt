@@ -1,16 +1,14 @@
 -- `step_run::run_order` meets its contract. The loop's invariant: the variables and the count are what the first i steps of the order leave.
 -- The measure is what is left of k. Assumes nothing.
 use mathlib.Core.Path.{◌≡◌, ap, ◌∙◌}
-use Prim.Native.Nat.{◌-◌, ◌≤◌, ◌<◌}
+use Prim.Native.Nat.{◌<◌}
 use native.Mathlib.Omega.{arith}
 use lib.ListN.{get_or}
-use Rattle.step_vars.specs.Inner.Variables.{Words}
 use Rattle.step_vars.proofs.Stores.{step_words}
 use Rattle.step_list.specs.Inner.Listing.{numbered_step}
 use Rattle.step_run.specs.Runs.{ran}
 use Rattle.step_run.specs.Inner.Runs.{ordered_steps}
 use Rattle.step_run.proofs.Runs.{doable_at, ran_none, ran_more}
-use borrow.Author.Rules.{rules}
 use Rattle.step_run.proofs.run_order.Goals as goal
 use Rattle.step_run.proofs.run_order.Goals.{After-wide16-e}
 
