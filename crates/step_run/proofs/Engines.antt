@@ -72,7 +72,7 @@ module _ (s : Session) (good : Good s) (rested : s.rested ≡ true) (new : ℕ �
         → made same_step (reads_in s.counts s.places s.sets) (fn_in s.types) (vars_of (ran_along s new xs).words) k ≡ value c (ends s) new k.net k.time
     run_reached xs k ys e =
         made_same s card k (order.only k (in_order k (seam xs)))
-        (ran_along s new xs).words (run same_step (step_reads c) (step_fn c) start xs) (left_same xs (λ j m. order.only j (in_order j (ahead_of xs j m))))
+        (ran_along s new xs).words (run same_step (step_reads c) (step_fn c) start xs) (left_same xs (λ j m. order.only j (in_order j (ahead_of j xs m))))
         ∙ reached c (ends s) new (ends_calm s card calm) start (start_ahead s card calm new) ks order xs k ys e
       where
         in_order : (j : Step) → j ∈ xs ++ k ∷ ys → j ∈ ks
@@ -82,9 +82,9 @@ module _ (s : Session) (good : Good s) (rested : s.rested ≡ true) (new : ℕ �
         seam [] = Memᴰ.head refl
         seam (z ∷ zs) = Memᴰ.tail (seam zs)
 
-        ahead_of : (zs : List Step) (j : Step) → j ∈ zs → j ∈ zs ++ k ∷ ys
-        ahead_of zs j (Memᴰ.head e) = Memᴰ.head e
-        ahead_of zs j (Memᴰ.tail {xs = rest} m) = Memᴰ.tail (ahead_of rest j m)
+        ahead_of : (j : Step) (zs : List Step) → j ∈ zs → j ∈ zs ++ k ∷ ys
+        ahead_of j zs (Memᴰ.head e) = Memᴰ.head e
+        ahead_of j zs (Memᴰ.tail {xs = rest} m) = Memᴰ.tail (ahead_of j rest m)
 
     -- along the first m entries each step done has its value
     pub run_first : (m : ℕ) (k : Step) → k ∈ take m ks → bit (get_or (ran_along s new (take m ks)).words k.net 0) k.time ≡ value c (ends s) new k.net k.time

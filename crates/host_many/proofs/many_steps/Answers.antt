@@ -40,7 +40,7 @@ abbrev begun : (c : In-loop-done) → tie.Start invariant-loop decreases-loop
 begun c = (at_listed ((c.before.before)))
 
 -- the list that is put is the card's
-ready : (c : After-put_list-total) → ListReady ((c)).args.s c.put_list-total.new.0 c.put_list-total.new.1.0 c.put_list-total.result
+ready : (c : After-put_list-total) → ListReady ((c)).args.s c.put_list-total.new.nets c.put_list-total.new.times c.put_list-total.result
 ready c = let a = (c) in list_ready a.args.s (card a) c.put_list-total.ensures (search rules) (search rules)
 
 pub put_list-total-requires : goal.put_list-total-requires

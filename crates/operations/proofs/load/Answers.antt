@@ -1,6 +1,5 @@
 -- `operations::load` meets its contract. Assumes nothing.
 use mathlib.Core.Path.{ap}
-use borrow.Author.Rules.{rules}
 use Rattle.operations.proofs.load.Goals as goal
 
 pub returns : goal.returns

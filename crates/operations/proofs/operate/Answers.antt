@@ -1,6 +1,5 @@
 -- `operations::operate` meets its contract. Assumes nothing.
 use mathlib.Core.Path.{sym, ap, ◌∙◌}
-use borrow.Author.Rules.{rules}
 use Rattle.operations.specs.Operated.{operated}
 use Rattle.operations.proofs.operate.Goals as goal
 

@@ -1,6 +1,5 @@
 -- `operations::vector_by` meets its contract. Assumes nothing.
 use mathlib.Core.Path.{sym, ap, ◌∙◌}
-use borrow.Author.Rules.{rules}
 use Rattle.operations.specs.Operated.{vector_by}
 use Rattle.operations.proofs.vector_by.Goals as goal
 

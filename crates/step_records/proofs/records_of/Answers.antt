@@ -1,13 +1,11 @@
 -- `step_records::records_of` meets its contract. The loop's invariant: the first i records are made. The measure is what is left of n.
 -- Assumes nothing.
 use mathlib.Core.Path.{◌≡◌}
-use Prim.Native.Nat.{◌-◌, ◌≤◌}
 use native.Mathlib.Omega.{arith}
 use lib.ListN.{replicate, length-replicate}
 use Rattle.lists.proofs.Rooms.{fills_none, fills_next}
-use Rattle.step_records.specs.Records.{blank_record, records_in}
+use Rattle.step_records.specs.Records.{blank_record}
 use Rattle.step_records.specs.Inner.Records.{record_in}
-use borrow.Author.Rules.{rules}
 use Rattle.step_records.proofs.records_of.Goals as goal
 
 pub loop-i-init : goal.loop-i-init

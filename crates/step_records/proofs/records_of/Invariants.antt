@@ -1,11 +1,8 @@
 use mathlib.Core.Path.{◌≡◌}
 use Prim.Native.Nat.{◌-◌, ◌≤◌}
-use native.Mathlib.Omega.{arith}
-use lib.ListN.{replicate, length-replicate}
-use Rattle.lists.proofs.Rooms.{fills_none, fills_next}
+use lib.ListN.{replicate}
 use Rattle.step_records.specs.Records.{blank_record, records_in}
 use Rattle.step_records.specs.Inner.Records.{record_in}
-use borrow.Author.Rules.{rules}
 use Rattle.step_records.proofs.records_of.Given as goal
 
 abbrev pub invariant-loop-i : goal.invariant-loop-i

@@ -19,7 +19,7 @@ card : (c : Start) → HasCard c.args.s
 card c = c.requires.good.card (c.requires.good.rest c.requires.rested_value.0).0
 
 -- the list that is put is the card's
-ready : (c : After-put_list-total) → ListReady c.args.s c.put_list-total.new.0 c.put_list-total.new.1.0 c.put_list-total.result
+ready : (c : After-put_list-total) → ListReady c.args.s c.put_list-total.new.nets c.put_list-total.new.times c.put_list-total.result
 ready c = list_ready c.args.s ((let it : HasCard c.args.s = c.requires.good.card (c.requires.good.rest c.requires.rested_value.0).0 in it)) c.put_list-total.ensures (search rules) (search rules)
 
 pub put_list-total-requires : goal.put_list-total-requires

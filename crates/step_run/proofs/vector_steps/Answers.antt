@@ -2,7 +2,6 @@
 use mathlib.Core.Path.{sym, ◌∙◌}
 use Rattle.inputs.proofs.Verdicts.{judged_vector}
 use Rattle.step_run.proofs.Vectors.{vector_refused_by, vector_run}
-use borrow.Author.Rules.{rules}
 use Rattle.step_run.proofs.vector_steps.Goals as goal
 
 pub run_steps-requires : goal.run_steps-requires

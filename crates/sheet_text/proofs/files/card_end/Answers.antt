@@ -1,11 +1,7 @@
 -- `sheet_text::files::card_end` meets its contract. The loop's invariant: the walk from here on ends where the card does. Assumes nothing.
-use mathlib.Core.Path.{◌≡◌, sym, ◌∙◌}
-use Prim.Native.Nat.{◌+◌, ◌-◌, ◌≤◌}
+use mathlib.Core.Path.{sym, ◌∙◌}
 use native.Mathlib.Omega.{arith}
-use borrow.Author.Rules.{rules}
-use lib.ListN.{length}
-use Rattle.sheet_text.specs.Walk.{card_end}
-use Rattle.sheet_text.proofs.Walks.{ending, end_first, end_none, end_here, end_on}
+use Rattle.sheet_text.proofs.Walks.{end_first, end_none, end_here, end_on}
 use Rattle.sheet_text.proofs.files.card_end.Goals as goal
 
 pub loop-at-init : goal.loop-at-init

@@ -1,10 +1,8 @@
-use mathlib.Core.Path.{◌≡◌, sym, ◌∙◌}
+use mathlib.Core.Path.{◌≡◌}
 use Prim.Native.Nat.{◌+◌, ◌-◌, ◌≤◌}
-use native.Mathlib.Omega.{arith}
-use borrow.Author.Rules.{rules}
 use lib.ListN.{length}
 use Rattle.sheet_text.specs.Walk.{card_end}
-use Rattle.sheet_text.proofs.Walks.{ending, end_first, end_none, end_here, end_on}
+use Rattle.sheet_text.proofs.Walks.{ending}
 use Rattle.sheet_text.proofs.files.card_end.Given as goal
 
 abbrev pub invariant-loop-at : goal.invariant-loop-at

@@ -1,9 +1,7 @@
 -- `sheet_text::files::entry_at` meets its contract: at each return the tests that led there say what stands at the place. Assumes nothing.
 use mathlib.Core.Path.{refl, ◌∙◌}
 use native.Mathlib.Omega.{arith}
-use borrow.Author.Rules.{rules}
 use Rattle.sheet_text.proofs.Walks.{in_nothing, in_head, in_kind, in_rest_cut, in_rest, in_vector_cut, in_vector, entry_as}
-use borrow.Author.Rules.{rules}
 use Rattle.sheet_text.proofs.files.entry_at.Goals as goal
 
 pub returns-then-n-at : goal.returns-then-n-at

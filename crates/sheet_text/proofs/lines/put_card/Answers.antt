@@ -8,7 +8,6 @@ use Rattle.card.specs.Session.{card_of}
 use Rattle.card.proofs.Kept.{loaded_is, card_steps, steps_loaded}
 use Rattle.sheet_text.specs.Lines.{blank, lf, first_line, card_text}
 use Rattle.sheet_text.proofs.Lengths.{word_short}
-use borrow.Author.Rules.{rules}
 use Rattle.sheet_text.proofs.lines.put_card.Goals as goal
 use Rattle.sheet_text.proofs.lines.put_card.Goals.{After-steps_of}
 

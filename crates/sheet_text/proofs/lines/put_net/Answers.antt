@@ -7,7 +7,6 @@ use Rattle.text.specs.Text.{numbered}
 use Rattle.text.proofs.Texts.{put_same, put_then}
 use Rattle.sheet_text.specs.Lines.{blank, lf, values, net_line}
 use Rattle.sheet_text.proofs.Lengths.{byte_short, values_length}
-use borrow.Author.Rules.{rules}
 use Rattle.sheet_text.proofs.lines.put_net.Goals as goal
 use Rattle.sheet_text.proofs.lines.put_net.Goals.{After-put_number-a, After-put_number-b, After-put_values-c}
 

@@ -1,14 +1,9 @@
-use mathlib.Core.Path.{◌≡◌, ap}
 use mathlib.Core.List.{List}
 use Prim.Native.Nat.{ℕ, ◌+◌, ◌-◌, ◌*◌, ◌≤◌}
-use native.Mathlib.Omega.{arith}
-use borrow.Author.Rules.{rules}
 use lib.ListN.{get_or}
 use Rattle.lists.specs.Entries.{each, from}
 use Rattle.text.specs.Inner.Put.{Put}
-use Rattle.text.proofs.Texts.{put_none, put_same}
 use Rattle.sheet_text.specs.Lines.{net_line}
-use Rattle.sheet_text.proofs.Lengths.{lines_more}
 use Rattle.sheet_text.proofs.lines.put_nets.Given as goal
 
 -- a net's line, from the arrays

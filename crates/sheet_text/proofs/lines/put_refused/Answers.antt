@@ -5,7 +5,6 @@ use Rattle.text.proofs.Texts.{put_same}
 use Rattle.sheet_text.specs.Lines.{lf, refused_word, refused_line}
 use Rattle.text.specs.Text.{named}
 use Rattle.sheet_text.proofs.Lengths.{byte_short}
-use borrow.Author.Rules.{rules}
 use Rattle.sheet_text.proofs.lines.put_refused.Goals as goal
 
 pub put_named-requires : goal.put_named-requires

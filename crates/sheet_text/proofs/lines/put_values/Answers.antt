@@ -1,13 +1,11 @@
 -- `sheet_text::lines::put_values` meets its contract. The loop's invariant: the values at times below t are put. Assumes nothing.
 use mathlib.Core.Path.{◌≡◌, sym, ap, ◌∙◌}
-use Prim.Native.Nat.{ℕ, ◌+◌, ◌-◌, ◌≤◌}
+use Prim.Native.Nat.{◌+◌}
 use native.Mathlib.Omega.{arith}
-use borrow.Author.Rules.{rules}
 use Rattle.lists.specs.Listed.{listed}
 use Rattle.lists.proofs.Listed.{length_listed, listed_none}
-use Rattle.word.specs.Word.{bit, val}
+use Rattle.word.specs.Word.{val}
 use Rattle.text.specs.Text.{digit}
-use Rattle.text.specs.Inner.Put.{Put}
 use Rattle.text.proofs.Texts.{put_none, put_same}
 use Rattle.sheet_text.specs.Lines.{values}
 use Rattle.sheet_text.proofs.Lengths.{values_more}

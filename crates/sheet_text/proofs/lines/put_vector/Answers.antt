@@ -9,7 +9,6 @@ use Rattle.text.proofs.Texts.{put_same, put_then}
 use Rattle.sheet_text.specs.Lines.{lf, vector_word, vector_text}
 use Rattle.sheet_text.proofs.Lengths.{word_short}
 use Rattle.sheet_text.proofs.Cards.{lines_are}
-use borrow.Author.Rules.{rules}
 use Rattle.sheet_text.proofs.lines.put_vector.Goals as goal
 
 pub put_named-at-requires : goal.put_named-at-requires
