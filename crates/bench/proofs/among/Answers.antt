@@ -1,9 +1,7 @@
 -- `bench::among` meets its contract. The loop's invariant: the first i entries are marked, nothing else. The measure is what is left of k.
 -- Assumes nothing.
 use mathlib.Core.Path.{◌≡◌, ap, ◌∙◌}
-use Prim.Native.Nat.{◌-◌, ◌≤◌}
 use native.Mathlib.Omega.{arith}
-use borrow.Author.Rules.{rules}
 use Rattle.lists.specs.Listed.{listed}
 use Rattle.step_orders.proofs.Seen.{stands, marks_none, marks_more}
 use Rattle.bench.proofs.among.Goals as goal

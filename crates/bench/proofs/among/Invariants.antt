@@ -1,9 +1,7 @@
-use mathlib.Core.Path.{◌≡◌, ap, ◌∙◌}
+use mathlib.Core.Path.{◌≡◌}
 use Prim.Native.Nat.{◌-◌, ◌≤◌}
-use native.Mathlib.Omega.{arith}
-use borrow.Author.Rules.{rules}
 use Rattle.lists.specs.Listed.{listed}
-use Rattle.step_orders.proofs.Seen.{stands, marks_none, marks_more}
+use Rattle.step_orders.proofs.Seen.{stands}
 use Rattle.bench.proofs.among.Given as goal
 
 abbrev pub invariant-loop-i : goal.invariant-loop-i

@@ -1,6 +1,5 @@
 -- `bench::bench` meets its contract: the vector's verdict decides, then the run with it. Assumes nothing.
 use mathlib.Core.Path.{sym, ◌∙◌}
-use borrow.Author.Rules.{rules}
 use Rattle.inputs.proofs.Verdicts.{judged_vector}
 use Rattle.bench.proofs.Answers.{bench_refused_by, bench_run}
 use Rattle.bench.proofs.bench.Goals as goal

@@ -2,7 +2,6 @@
 -- the whole list moves it. Assumes nothing.
 use mathlib.Core.Path.{◌≡◌, sym, subst}
 use native.Mathlib.Omega.{arith}
-use borrow.Author.Rules.{rules}
 use Rattle.lists.specs.Listed.{listed}
 use Rattle.inputs.specs.Inputs.{given}
 use Rattle.card.specs.Held.{HasCard}

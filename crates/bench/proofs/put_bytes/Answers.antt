@@ -1,7 +1,7 @@
 -- `bench::put_bytes` meets its contract. The loop's invariant: the first e bytes are those of the first e steps, the rest is as it was. The
 -- measure is what is left of the list. Assumes nothing.
 use mathlib.Core.Path.{◌≡◌, ap, ◌∙◌}
-use Prim.Native.Nat.{◌-◌, ◌≤◌, ◌<◌}
+use Prim.Native.Nat.{◌<◌}
 use native.Mathlib.Omega.{arith}
 use borrow.Author.Rules.{rules}
 use Rattle.lists.specs.Filled.{filled}

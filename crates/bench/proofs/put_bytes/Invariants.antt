@@ -1,11 +1,7 @@
-use mathlib.Core.Path.{◌≡◌, ap, ◌∙◌}
-use Prim.Native.Nat.{◌-◌, ◌≤◌, ◌<◌}
-use native.Mathlib.Omega.{arith}
-use borrow.Author.Rules.{rules}
+use mathlib.Core.Path.{◌≡◌}
+use Prim.Native.Nat.{◌-◌, ◌≤◌}
 use Rattle.lists.specs.Filled.{filled}
-use Rattle.lists.proofs.Rooms.{filled_none, filled_turn, filled_keeps}
 use Rattle.bench.specs.Inner.Taken.{byte_in}
-use Rattle.bench.proofs.Bytes.{byte_at}
 use Rattle.bench.proofs.put_bytes.Given as goal
 
 abbrev pub invariant-loop-e : goal.invariant-loop-e

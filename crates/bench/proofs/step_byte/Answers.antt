@@ -1,8 +1,6 @@
 -- `bench::step_byte` meets its contract: a step that was not done has 2, one that was done the digit of its value. Assumes nothing.
 use mathlib.Core.Path.{sym, ◌∙◌}
 use mathlib.Core.Bool.{true, false}
-use borrow.Author.Rules.{rules}
-use borrow.Author.Tests.{not-true, not-false}
 use Rattle.word.specs.Word.{bit}
 use Rattle.bench.specs.Bench.{not_done}
 use Rattle.bench.proofs.Bytes.{byte_not, byte_done}

@@ -4,7 +4,6 @@ use mathlib.Core.Bool.{true}
 use Prim.Native.Nat.{◌≤◌}
 use native.Mathlib.Omega.{arith}
 use lib.ListN.{length}
-use borrow.Author.Tests.{not-true, not-false}
 use Rattle.rule.specs.Steps.{step_list}
 use Rattle.card.specs.Session.{card_of}
 use Rattle.card.specs.Held.{HasCard}
@@ -18,17 +17,14 @@ loaded : (c : Else-not-s) → c.args.s.loaded ≡ true
 loaded c = c.if-not-s.false
 
 card : (c : Else-not-s) → HasCard c.args.s
-card c = c.requires.card ((let it : c.args.s.loaded ≡ true = c.if-not-s.false in it))
+card c = c.requires.card c.if-not-s.false
 
 -- where the list is put: the card, and its list
-abbrev start : (p : After-put_list-total) → tie.Else1
-start p = p.before.before.before.before.before.before
-
-list-size : (p : After-put_list-total) → p.put_list-total.result ≡ length (step_list (card_of ((p.before.before.before.before.before.before)).before.args.s))
-list-size p = list_total ((p.before.before.before.before.before.before)).before.args.s (card ((p.before.before.before.before.before.before))) p.put_list-total.ensures
+list-size : (p : After-put_list-total) → p.put_list-total.result ≡ length (step_list (card_of p.args.s))
+list-size p = list_total p.args.s (p.requires.card p.if-not-s.false) p.put_list-total.ensures
 
 few : (p : After-put_list-total) → p.put_list-total.result ≤ 4096
-few p = list_few ((p.before.before.before.before.before.before)).before.args.s (card ((p.before.before.before.before.before.before))) p.put_list-total.ensures
+few p = list_few p.args.s (p.requires.card p.if-not-s.false) p.put_list-total.ensures
 
 pub returns-then-not-s : goal.returns-then-not-s
 returns-then-not-s c = let a = c.args in c.no_records.ensures ∙ sym (listing_none a.s a.room (c.if-not-s.true))
@@ -38,14 +34,14 @@ put_list-total-requires c = record { gates_bound = list_asked c.args.s (card (go
 
 pub returns-then-room-total : goal.returns-then-room-total
 returns-then-room-total c =
-    let a = (start (goal.at.returns-then-room-total c).After-put_list-total).before.args in
-    c.no_records-then-room-total.ensures ∙ sym (listing_short a.s a.room (loaded (start (goal.at.returns-then-room-total c).After-put_list-total)) (omega (arith, list-size (goal.at.returns-then-room-total c).After-put_list-total, c.if-room-total.true)))
+    let a = c.args in
+    c.no_records-then-room-total.ensures ∙ sym (listing_short a.s a.room (loaded (goal.at.returns-then-room-total c).Else-not-s) (omega (arith, list-size (goal.at.returns-then-room-total c).After-put_list-total, c.if-room-total.true)))
 
 pub records_of-records-requires : goal.records_of-records-requires
 records_of-records-requires c = few (goal.at.records_of-records-requires c).After-put_list-total
 
 pub returns : goal.returns
 returns c =
-    let a = (start (goal.at.returns c).After-put_list-total).before.args in
-    listing_made a.s a.room (list_held a.s (card (start (goal.at.returns c).After-put_list-total)) c.put_list-total.ensures) (search rules) (search rules) (few (goal.at.returns c).After-put_list-total)
-    (loaded (start (goal.at.returns c).After-put_list-total)) c.if-room-total.false _ c.records_of-records.ensures
+    let a = c.args in
+    listing_made a.s a.room (list_held a.s (card (goal.at.returns c).Else-not-s) c.put_list-total.ensures) (search rules) (search rules) (few (goal.at.returns c).After-put_list-total)
+    (loaded (goal.at.returns c).Else-not-s) c.if-room-total.false _ c.records_of-records.ensures
