@@ -1,7 +1,6 @@
 -- `host_bytes::byte_at` meets its contract: past the end there is 0. Assumes nothing.
 use mathlib.Core.Path.{sym}
 use lib.ListN.{get_or-eq_default}
-use borrow.Author.Rules.{rules}
 use Rattle.host_bytes.proofs.byte_at.Goals as goal
 
 pub returns-else-i-v : goal.returns-else-i-v

@@ -1,11 +1,8 @@
 -- `host_bytes::is_clear` meets its contract. The loop's invariant: what is left to test decides. The measure is what is left. Assumes nothing.
-use mathlib.Core.Path.{◌≡◌, refl, sym, ◌∙◌}
-use Prim.Native.Nat.{◌-◌}
+use mathlib.Core.Path.{refl, sym, ◌∙◌}
 use native.Mathlib.Omega.{arith}
 use lib.ListN.{get_or}
 use borrow.Author.Tests.{eq-eqb, ne_eqb}
-use borrow.Author.Rules.{rules}
-use Rattle.lists.specs.Places.{clear}
 use Rattle.lists.proofs.Places.{clear_past, clear_step}
 use Rattle.host_bytes.proofs.is_clear.Goals as goal
 

@@ -1,6 +1,5 @@
 -- `host_bytes::keep` meets its contract. Assumes nothing.
 use mathlib.Core.Path.{sym, ap, ◌∙◌}
-use borrow.Author.Rules.{rules}
 use Rattle.host_bytes.specs.Kept.{kept_by}
 use Rattle.host_bytes.proofs.keep.Goals as goal
 

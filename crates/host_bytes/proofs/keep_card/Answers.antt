@@ -1,6 +1,5 @@
 -- `host_bytes::keep_card` meets its contract. Assumes nothing.
 use Rattle.host_bytes.specs.Kept.{kept_card}
-use borrow.Author.Rules.{rules}
 use Rattle.host_bytes.proofs.keep_card.Goals as goal
 
 pub returns : goal.returns

@@ -1,6 +1,5 @@
 -- `host_bytes::keep_rest` meets its contract. Assumes nothing.
 use Rattle.host_bytes.specs.Kept.{kept_rest}
-use borrow.Author.Rules.{rules}
 use Rattle.host_bytes.proofs.keep_rest.Goals as goal
 
 pub returns : goal.returns

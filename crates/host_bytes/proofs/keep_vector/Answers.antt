@@ -1,5 +1,4 @@
 -- `host_bytes::keep_vector` meets its contract. Assumes nothing.
-use borrow.Author.Rules.{rules}
 use Rattle.host_bytes.specs.Kept.{kept_vector}
 use Rattle.host_bytes.proofs.keep_vector.Goals as goal
 

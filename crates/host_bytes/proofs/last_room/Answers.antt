@@ -1,13 +1,7 @@
 -- `host_bytes::last_room` meets its contract. The loop's invariant: the first i places are filled. The measure is what is left of 256. Assumes nothing.
-use mathlib.Core.Path.{◌≡◌, refl}
-use mathlib.Core.List.{List}
-use Prim.Native.Nat.{ℕ, ◌+◌, ◌-◌, ◌≤◌}
+use mathlib.Core.Path.{refl}
 use native.Mathlib.Omega.{arith}
-use lib.ListN.{get_or}
-use Rattle.lists.specs.Listed.{listed, upto}
 use Rattle.lists.proofs.Fills.{fill_none, fill_more, fill_all}
-use borrow.Author.Rules.{rules}
-use Rattle.host_bytes.specs.Layout.{last_at}
 use Rattle.host_bytes.specs.Kept.{last_room}
 use Rattle.host_bytes.proofs.last_room.Invariants.{byte_in}
 use Rattle.host_bytes.proofs.last_room.Goals as goal

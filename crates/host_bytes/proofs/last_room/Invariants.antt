@@ -1,13 +1,9 @@
-use mathlib.Core.Path.{◌≡◌, refl}
+use mathlib.Core.Path.{◌≡◌}
 use mathlib.Core.List.{List}
 use Prim.Native.Nat.{ℕ, ◌+◌, ◌-◌, ◌≤◌}
-use native.Mathlib.Omega.{arith}
 use lib.ListN.{get_or}
 use Rattle.lists.specs.Listed.{listed, upto}
-use Rattle.lists.proofs.Fills.{fill_none, fill_more, fill_all}
-use borrow.Author.Rules.{rules}
 use Rattle.host_bytes.specs.Layout.{last_at}
-use Rattle.host_bytes.specs.Kept.{last_room}
 use Rattle.host_bytes.proofs.last_room.Given as goal
 
 abbrev pub byte_in : List ℕ → ℕ → ℕ

@@ -1,9 +1,7 @@
 -- `host_bytes::put_area` meets its contract. The loop's invariant: the area is written up to place i. The measure is what is left of it. Assumes nothing.
 use mathlib.Core.Path.{◌≡◌, ap, ap₂, ◌∙◌}
-use Prim.Native.Nat.{◌-◌, ◌≤◌}
 use native.Mathlib.Omega.{arith}
 use lib.ListN.{length, set}
-use borrow.Author.Rules.{rules}
 use Rattle.lists.specs.Places.{area}
 use Rattle.lists.proofs.Places.{length_area, area_none, area_more}
 use Rattle.host_bytes.proofs.put_area.Goals as goal

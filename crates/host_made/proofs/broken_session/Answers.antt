@@ -2,7 +2,6 @@
 use mathlib.Core.Path.{ap}
 use mathlib.Core.Bool.{false}
 use Rattle.host_made.specs.Made.{broken}
-use borrow.Author.Rules.{rules}
 use Rattle.host_made.proofs.broken_session.Goals as goal
 
 pub returns : goal.returns

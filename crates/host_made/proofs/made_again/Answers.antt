@@ -1,13 +1,11 @@
 -- `host_made::made_again` meets its contract. Assumes nothing.
 use mathlib.Core.Path.{◌≡◌, sym, ap, ap₂, ◌∙◌}
 use Prim.Native.Nat.{◌+◌, ◌≤◌}
-use borrow.Author.Tests.{not-true, not-false}
 use Rattle.lists.specs.Places.{clear}
 use Rattle.card_records.specs.Bytes.{u16_at}
 use Rattle.host_bytes.specs.Layout.{card_at, longest_card, card_to}
 use Rattle.host_made.specs.Made.{made_loaded}
 use Rattle.host_made.proofs.Making.{again_none, again_long, again_unclear, again_loaded}
-use borrow.Author.Rules.{rules}
 use Rattle.host_made.proofs.made_again.Goals as goal
 use Rattle.host_made.proofs.made_again.Goals.{After-is_clear-2}
 

@@ -1,7 +1,6 @@
 -- `host_made::made_by` meets its contract. Assumes nothing.
 use mathlib.Core.Path.{◌∙◌}
 use Rattle.host_made.proofs.Making.{by_refused, by_done}
-use borrow.Author.Rules.{rules}
 use Rattle.host_made.proofs.made_by.Goals as goal
 
 pub returns-in-Refused : goal.returns-in-Refused

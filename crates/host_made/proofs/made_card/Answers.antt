@@ -2,11 +2,10 @@
 use mathlib.Core.Path.{◌∙◌}
 use Rattle.operations.specs.declared.Engine.TheVariants.{Fields, Steps}
 use Rattle.host_made.proofs.Making.{card_1, card_2, card_moved, card_other}
-use borrow.Author.Rules.{rules}
 use Rattle.host_made.proofs.made_card.Goals as goal
 
 pub returns-then-state-eq1 : goal.returns-then-state-eq1
-returns-then-state-eq1 c = let a = c.args in c.Made-plain.ensures ∙ card_1 a.b.now a.s c.if-state-eq1.true
+returns-then-state-eq1 c = let a = c.args in c.made_plain.ensures ∙ card_1 a.b.now a.s c.if-state-eq1.true
 
 pub returns-then-state-eq2 : goal.returns-then-state-eq2
 returns-then-state-eq2 c = let a = c.args in c.made_rested.ensures ∙ card_2 a.b.now a.s c.if-state-eq2.true

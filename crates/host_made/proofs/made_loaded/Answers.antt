@@ -12,7 +12,6 @@ use Rattle.host_bytes.specs.Layout.{card_at}
 use Rattle.host_bytes.proofs.Bytes.{part_bytes}
 use Rattle.host_made.specs.Made.{made_card}
 use Rattle.host_made.proofs.Making.{few_inputs, loaded_refused, loaded_is}
-use borrow.Author.Rules.{rules}
 use Rattle.host_made.proofs.made_loaded.Goals as goal
 use Rattle.host_made.proofs.made_loaded.Goals.{After-load-left}
 

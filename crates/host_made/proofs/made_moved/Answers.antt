@@ -1,7 +1,6 @@
 -- `host_made::made_moved` meets its contract. Assumes nothing.
 use mathlib.Core.Path.{◌≡◌, sym, ap, subst, ◌∙◌}
 use mathlib.Core.Bool.{true}
-use borrow.Author.Tests.{not-true, not-false}
 use Rattle.lists.specs.Places.{part}
 use Rattle.lists.proofs.Places.{part_of}
 use Rattle.session.specs.Good.{Good}
@@ -10,7 +9,6 @@ use Rattle.session.proofs.Kept.{rest_good}
 use Rattle.host_bytes.specs.Layout.{older_at}
 use Rattle.host_made.specs.Made.{made_by, fitting}
 use Rattle.host_made.proofs.Making.{moved_not, moved_refused, moved_is}
-use borrow.Author.Rules.{rules}
 use Rattle.host_made.proofs.made_moved.Goals as goal
 use Rattle.host_made.proofs.made_moved.Goals.{After-rest-rested}
 

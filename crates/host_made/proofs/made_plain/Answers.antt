@@ -1,8 +1,6 @@
 -- `host_made::made_plain` meets its contract. Assumes nothing.
 use mathlib.Core.Path.{sym, ◌∙◌}
-use borrow.Author.Tests.{not-true, not-false}
 use Rattle.host_made.proofs.Making.{plain_not, plain_is}
-use borrow.Author.Rules.{rules}
 use Rattle.host_made.proofs.made_plain.Goals as goal
 
 pub returns-then-not-rooms_fit : goal.returns-then-not-rooms_fit

@@ -1,10 +1,8 @@
 -- `host_made::made_rested` meets its contract. Assumes nothing.
 use mathlib.Core.Path.{sym, ap, ◌∙◌}
-use borrow.Author.Tests.{not-true, not-false}
 use Rattle.lists.proofs.Places.{part_of}
 use Rattle.host_made.specs.Made.{made_by}
 use Rattle.host_made.proofs.Making.{rested_not, rested_is}
-use borrow.Author.Rules.{rules}
 use Rattle.host_made.proofs.made_rested.Goals as goal
 
 pub returns-then-not-rooms_fit : goal.returns-then-not-rooms_fit

@@ -1,6 +1,5 @@
 -- `host_made::rooms_fit` meets its contract. Assumes nothing.
 use mathlib.Core.Path.{sym, ◌∙◌}
-use borrow.Author.Rules.{rules}
 use Rattle.host_made.proofs.rooms_fit.Goals as goal
 
 pub returns-then-is_clear : goal.returns-then-is_clear

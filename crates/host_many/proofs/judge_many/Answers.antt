@@ -5,7 +5,6 @@ use borrow.Author.Tests.{not-true, not-false}
 use Rattle.card.specs.Held.{HasCard}
 use Rattle.card.proofs.Kept.{inputs_some}
 use Rattle.host_many.proofs.Many.{many_12, many_10, many_11, many_18, many_0}
-use borrow.Author.Rules.{rules}
 use Rattle.host_many.proofs.judge_many.Goals as goal
 use Rattle.host_many.proofs.judge_many.Goals.{Else-not-s}
 

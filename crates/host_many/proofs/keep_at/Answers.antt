@@ -3,7 +3,6 @@ use mathlib.Core.Path.{ap, ◌∙◌}
 use Prim.Native.Nat.{◌*◌}
 use Rattle.lists.proofs.Places.{part_of}
 use Rattle.host_bytes.specs.Kept.{kept_vector}
-use borrow.Author.Rules.{rules}
 use Rattle.host_many.proofs.keep_at.Goals as goal
 
 pub returns : goal.returns

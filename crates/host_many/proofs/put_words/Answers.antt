@@ -1,10 +1,8 @@
 -- `host_many::put_words` meets its contract. The loop's invariant: the first i words are put. The measure is what is left of n. Assumes nothing.
-use mathlib.Core.Path.{◌≡◌, refl}
-use Prim.Native.Nat.{◌+◌, ◌-◌, ◌≤◌}
+use mathlib.Core.Path.{refl}
+use Prim.Native.Nat.{◌+◌}
 use native.Mathlib.Omega.{arith}
-use Rattle.lists.specs.Places.{area}
 use Rattle.lists.proofs.Places.{put_start, put_next, put_end, put_length}
-use borrow.Author.Rules.{rules}
 use Rattle.host_many.proofs.put_words.Goals as goal
 
 pub loop-i-init : goal.loop-i-init

@@ -14,4 +14,4 @@ returns-in-Fields c =
 pub returns-in-Steps : goal.returns-in-Steps
 returns-in-Steps c =
     let a = c.args in
-    let e = sym c.in-Steps.is in record { room_after = c.many_steps.ensures.0 ∙ ap (λ h. (many_by h a.s a.vectors.now a.s.inputs a.k a.room.now).words) e; value = c.many_steps.ensures.1 ∙ ap (λ h. (many_by h a.s a.vectors.now a.s.inputs a.k a.room.now).count) e }
+    let e = sym c.in-Steps.is in record { room_after = c.many_steps.ensures.room_after ∙ ap (λ h. (many_by h a.s a.vectors.now a.s.inputs a.k a.room.now).words) e; value = c.many_steps.ensures.value ∙ ap (λ h. (many_by h a.s a.vectors.now a.s.inputs a.k a.room.now).count) e }

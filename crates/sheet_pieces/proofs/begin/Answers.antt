@@ -4,7 +4,6 @@ use Rattle.sheet_pieces.specs.declared.Sheet.{Sheet}
 use Rattle.sheet_pieces.specs.declared.Stage.TheVariants.{Fresh}
 use Rattle.sheet_pieces.specs.Pieces.{fresh, Standing}
 use Rattle.sheet_pieces.proofs.Standing.{fresh_stands}
-use borrow.Author.Rules.{rules}
 use Rattle.sheet_pieces.proofs.begin.Goals as goal
 
 pub returns : goal.returns

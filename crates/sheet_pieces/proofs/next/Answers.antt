@@ -4,7 +4,6 @@ use native.Mathlib.Omega.{arith}
 use Rattle.text.proofs.Texts.{put_none}
 use Rattle.sheet_pieces.proofs.Steps.{hand_back, hand_on, piece_at_lem}
 use Rattle.sheet_pieces.proofs.Fits.{piece_kept}
-use borrow.Author.Rules.{rules}
 use Rattle.sheet_pieces.proofs.next.Goals as goal
 
 pub returns-in-Fresh : goal.returns-in-Fresh

@@ -1,10 +1,7 @@
 -- `sheet_pieces::next_record` meets its contract: by what stands at the place. Assumes nothing.
-use mathlib.Core.Path.{◌≡◌, sym, ap, subst, ◌∙◌}
-use mathlib.Core.List.{List}
-use Prim.Native.Nat.{ℕ}
+use mathlib.Core.Path.{sym, ap, subst, ◌∙◌}
 use native.Mathlib.Omega.{arith}
 use lib.ListN.{length}
-use Rattle.sheet_text.specs.declared.Entry.{Entry}
 use Rattle.sheet_text.specs.declared.Entry.TheVariants.{Rest, Vector}
 use Rattle.sheet_pieces.specs.Pieces.{entry_piece}
 use Rattle.text.proofs.Texts.{put_none}
@@ -12,39 +9,32 @@ use Rattle.sheet_pieces.proofs.Steps.{hand_back, hand_on}
 use Rattle.sheet_pieces.proofs.Standing.{Placed, entry_placed}
 use borrow.Author.Rules.{rules}
 use Rattle.sheet_pieces.proofs.next_record.Goals as goal
-use Rattle.sheet_pieces.proofs.next_record.Goals.{After-entry_at, In-Rest, In-Vector}
+use Rattle.sheet_pieces.proofs.next_record.Goals.{In-Rest, In-Vector}
 
--- the file and the place, and that a rest, or a vector, is whole
-abbrev file : (c : After-entry_at) → List ℕ
-file e = e.args.file.now
+-- a rest, or a vector, is whole
+rest_placed : (c : In-Rest) → Placed (length c.args.file.now) c.args.sheet.at (Rest c.in-Rest.to)
+rest_placed c =
+    subst (Placed (length c.args.file.now) c.args.sheet.at) (sym c.entry_at.ensures ∙ c.in-Rest.is) (entry_placed c.args.file.now c.args.sheet.at)
 
-abbrev place : (c : After-entry_at) → ℕ
-place e = e.args.sheet.at
-
-placed : (e : After-entry_at) → (x : Entry) → e.entry_at.result ≡ x → Placed (length ((e.args.file.now))) ((e.args.sheet.at)) x
-placed e x g = subst (Placed (length ((e.args.file.now))) ((e.args.sheet.at))) (sym e.entry_at.ensures ∙ g) (entry_placed ((e.args.file.now)) ((e.args.sheet.at)))
-
-rest-placed : (c : In-Rest) → Placed (length ((c.args.file.now))) ((c.args.sheet.at)) (Rest c.in-Rest.to)
-rest-placed c = (let it : (x : Entry) → c.entry_at.result ≡ x → Placed (length ((c.args.file.now))) ((c.args.sheet.at)) x = λ x g. subst (Placed (length ((c.args.file.now))) ((c.args.sheet.at))) (sym c.entry_at.ensures ∙ g) (entry_placed ((c.args.file.now)) ((c.args.sheet.at))) in it) _ c.in-Rest.is
-
-vector-placed : (c : In-Vector) → Placed (length ((c.args.file.now))) ((c.args.sheet.at)) (Vector c.in-Vector.to)
-vector-placed c = (let it : (x : Entry) → c.entry_at.result ≡ x → Placed (length ((c.args.file.now))) ((c.args.sheet.at)) x = λ x g. subst (Placed (length ((c.args.file.now))) ((c.args.sheet.at))) (sym c.entry_at.ensures ∙ g) (entry_placed ((c.args.file.now)) ((c.args.sheet.at))) in it) _ c.in-Vector.is
+vector_placed : (c : In-Vector) → Placed (length c.args.file.now) c.args.sheet.at (Vector c.in-Vector.to)
+vector_placed c =
+    subst (Placed (length c.args.file.now) c.args.sheet.at) (sym c.entry_at.ensures ∙ c.in-Vector.is) (entry_placed c.args.file.now c.args.sheet.at)
 
 pub overflow_add-from : goal.overflow_add-from
-overflow_add-from c = let p = rest-placed (goal.at.overflow_add-from c).In-Rest in search rules
+overflow_add-from c = let p = rest_placed (goal.at.overflow_add-from c).In-Rest in search rules
 
 pub slice_bounds-rest-count : goal.slice_bounds-rest-count
-slice_bounds-rest-count c = (rest-placed (goal.at.slice_bounds-rest-count c).In-Rest).0
+slice_bounds-rest-count c = (rest_placed (goal.at.slice_bounds-rest-count c).In-Rest).0
 
 pub overflow_add-from-in-Vector : goal.overflow_add-from-in-Vector
-overflow_add-from-in-Vector c = let p = vector-placed (goal.at.overflow_add-from-in-Vector c).In-Vector in search rules
+overflow_add-from-in-Vector c = let p = vector_placed (goal.at.overflow_add-from-in-Vector c).In-Vector in search rules
 
 pub slice_bounds-vector-count : goal.slice_bounds-vector-count
-slice_bounds-vector-count c = (vector-placed (goal.at.slice_bounds-vector-count c).In-Vector).0
+slice_bounds-vector-count c = (vector_placed (goal.at.slice_bounds-vector-count c).In-Vector).0
 
 pub vector-requires : goal.vector-requires
 vector-requires c =
-    record { standing = c.requires.standing; stage_value = (c.requires.stage_value, omega (arith, (vector-placed (goal.at.vector-requires c).In-Vector).0)) }
+    record { standing = c.requires.standing; stage_value = (c.requires.stage_value, omega (arith, (vector_placed (goal.at.vector-requires c).In-Vector).0)) }
 
 pub returns-in-Nothing : goal.returns-in-Nothing
 returns-in-Nothing c =
@@ -76,3 +66,15 @@ returns-in-Vector c =
     (ap (entry_piece a.sheet a.file.now)
     (sym c.in-Vector.is ∙ c.entry_at.ensures))
     c.vector.ensures
+
+pub slice_bounds-rest-start : goal.slice_bounds-rest-start
+slice_bounds-rest-start c = let p = rest_placed (goal.at.slice_bounds-rest-start c).In-Rest in search rules
+
+pub slice_bounds-rest-end : goal.slice_bounds-rest-end
+slice_bounds-rest-end c = let p = rest_placed (goal.at.slice_bounds-rest-end c).In-Rest in search rules
+
+pub slice_bounds-vector-start : goal.slice_bounds-vector-start
+slice_bounds-vector-start c = let p = vector_placed (goal.at.slice_bounds-vector-start c).In-Vector in search rules
+
+pub slice_bounds-vector-end : goal.slice_bounds-vector-end
+slice_bounds-vector-end c = let p = vector_placed (goal.at.slice_bounds-vector-end c).In-Vector in search rules

@@ -5,7 +5,6 @@ use lib.Seq.{length-take-le}
 use Rattle.card.proofs.Verdicts.{load_holds}
 use Rattle.sheet_pieces.specs.Pieces.{loaded_piece, card_piece}
 use Rattle.sheet_pieces.proofs.Steps.{hand_on, refused_so, done_so, card_long, card_loads, bytes_front}
-use borrow.Author.Rules.{rules}
 use Rattle.sheet_pieces.proofs.open_card.Goals as goal
 use Rattle.sheet_pieces.proofs.open_card.Goals.{After-load-loaded}
 

@@ -1,10 +1,9 @@
 -- `sheet_pieces::refused` meets its contract. Assumes nothing.
 use Rattle.sheet_pieces.specs.Pieces.{refused_piece}
 use Rattle.sheet_pieces.proofs.Steps.{hand_back}
-use borrow.Author.Rules.{rules}
 use Rattle.sheet_pieces.proofs.refused.Goals as goal
 
 pub returns : goal.returns
 returns c =
     hand_back (refused_piece c.args.sheet c.args.why) c.end.ensures
-    c.Put-refused.ensures
+    c.put_refused-length.ensures

@@ -4,7 +4,6 @@ use mathlib.Core.List.{[]}
 use Rattle.text.proofs.Texts.{put_none}
 use Rattle.sheet_pieces.specs.Pieces.{moved_sheet, rest_piece}
 use Rattle.sheet_pieces.proofs.Steps.{hand_back, hand_on, refused_so, done_so}
-use borrow.Author.Rules.{rules}
 use Rattle.sheet_pieces.proofs.rest.Goals as goal
 
 pub returns-in-Refused : goal.returns-in-Refused

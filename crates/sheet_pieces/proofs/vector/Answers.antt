@@ -9,7 +9,6 @@ use Rattle.session.proofs.Kept.{vector_good, vector_card, vector_rests}
 use Rattle.sheet_text.specs.Lines.{vector_text}
 use Rattle.sheet_pieces.specs.Pieces.{moved_sheet, vector_piece}
 use Rattle.sheet_pieces.proofs.Steps.{hand_back, hand_on, refused_so, done_so}
-use borrow.Author.Rules.{rules}
 use Rattle.sheet_pieces.proofs.vector.Goals as goal
 
 pub overflow_add-vectors : goal.overflow_add-vectors
