@@ -23,7 +23,7 @@ use Rattle.inputs.specs.Allowed.{Vector, gets_12, gets_10, gets_11}
 use Rattle.card_records.specs.Written.{Bytes}
 use Rattle.card.specs.declared.Session.{Session}
 use Rattle.card.specs.Session.{none, inputs_of, session_of, card_of}
-use Rattle.card.specs.Load.{refusal, load_of}
+use Rattle.card.specs.Load.{load_of}
 use Rattle.card.specs.Allowed.{Allowed}
 use Rattle.card.specs.Held.{HasCard}
 use Rattle.card.proofs.Kept.{session_card, session_holds, loaded_is, nets_are, inputs_are, card_fits}

@@ -21,7 +21,7 @@ use Rattle.card.specs.declared.Session.{Session}
 use Rattle.card.specs.Session.{inputs_of, session_of, card_of}
 use Rattle.card.specs.Load.{refusal, concluded, judged, load_meant, load_of}
 use Rattle.card.specs.Asked.{net_asked}
-use Rattle.session.specs.Moves.{refused_move, moving, rest_of, vector_of}
+use Rattle.session.specs.Moves.{moving, rest_of, vector_of}
 use Rattle.history.specs.Told.{Told, history_of}
 use Rattle.trace.specs.Traced.{Traced, changed_then, trace_of}
 use Rattle.step_orders.specs.Orders.{order_judged}

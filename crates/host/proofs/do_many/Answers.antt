@@ -3,7 +3,6 @@ use mathlib.Core.Path.{sym, ap, ◌∙◌}
 use native.Mathlib.Nat.{le_of_eq, le-div_iff_mul-le}
 use native.Mathlib.Omega.{arith}
 use lib.ListN.{length}
-use borrow.Author.Rules.{rules}
 use Rattle.card.proofs.Kept.{nets_are, inputs_some}
 use Rattle.host_many.proofs.Many.{many_asks}
 use Rattle.host.specs.Vectors.{many_done}
@@ -37,5 +36,5 @@ pub returns-in-Done : goal.returns-in-Done
 returns-in-Done c =
     let a = c.args in
     done_all a.engine a.s a.b.now a.vectors.now a.words.now c.judge_many-verdict.result _ c.pack-in-Done.result c.run_many-count.result _ _
-    c.in-Done.is c.run_many-count.ensures.1 c.pack-in-Done.ensures c.keep_many.ensures c.run_many-count.ensures.0
+    c.in-Done.is c.run_many-count.ensures.value c.pack-in-Done.ensures c.keep_many.ensures c.run_many-count.ensures.room_after
     ∙ ap (many_done a.engine a.s a.b.now a.vectors.now a.words.now) c.judge_many-verdict.ensures

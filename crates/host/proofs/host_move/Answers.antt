@@ -7,7 +7,6 @@ use Rattle.host_made.proofs.Making.{again_good}
 use Rattle.operations.specs.Operated.{operated}
 use Rattle.host.specs.Calls.{left_by}
 use Rattle.host.proofs.Answering.{move_short, move_broken, move_left}
-use borrow.Author.Rules.{rules}
 use Rattle.host.proofs.host_move.Goals as goal
 
 pub returns-then-b-lt-SESSION_LENGTH : goal.returns-then-b-lt-SESSION_LENGTH

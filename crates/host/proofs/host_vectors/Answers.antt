@@ -8,7 +8,6 @@ use Rattle.host_made.proofs.Making.{again_good}
 use Rattle.host_many.specs.Many.{many_judged}
 use Rattle.host.specs.Vectors.{many_done}
 use Rattle.host.proofs.Vectors.{vectors_short, vectors_broken, vectors_done}
-use borrow.Author.Rules.{rules}
 use Rattle.host.proofs.host_vectors.Goals as goal
 
 pub returns-then-session-lt-SESSION_LENGTH : goal.returns-then-session-lt-SESSION_LENGTH

@@ -6,7 +6,6 @@ use Rattle.session.specs.Good.{Good}
 use Rattle.history.specs.Told.{history_of}
 use Rattle.host_made.proofs.Making.{again_good}
 use Rattle.host.proofs.Answering.{history_short, history_broken, history_shown}
-use borrow.Author.Rules.{rules}
 use Rattle.host.proofs.krasvome_history.Goals as goal
 
 pub returns-then-session-lt-SESSION_LENGTH : goal.returns-then-session-lt-SESSION_LENGTH

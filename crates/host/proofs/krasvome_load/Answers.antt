@@ -1,5 +1,4 @@
 -- `host::krasvome_load` meets its contract. Assumes nothing.
-use borrow.Author.Rules.{rules}
 use Rattle.host.proofs.krasvome_load.Goals as goal
 
 pub returns : goal.returns

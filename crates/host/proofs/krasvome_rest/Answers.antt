@@ -1,5 +1,4 @@
 -- `host::krasvome_rest` meets its contract. Assumes nothing.
-use borrow.Author.Rules.{rules}
 use Rattle.host.proofs.krasvome_rest.Goals as goal
 
 pub returns : goal.returns

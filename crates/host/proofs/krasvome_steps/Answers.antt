@@ -1,5 +1,4 @@
 -- `host::krasvome_steps` meets its contract. Assumes nothing.
-use borrow.Author.Rules.{rules}
 use Rattle.host.proofs.krasvome_steps.Goals as goal
 
 pub returns : goal.returns

@@ -1,5 +1,4 @@
 -- `host::krasvome_vector` meets its contract. Assumes nothing.
-use borrow.Author.Rules.{rules}
 use Rattle.host.proofs.krasvome_vector.Goals as goal
 
 pub returns : goal.returns

@@ -1,6 +1,5 @@
 -- `host::left_by` meets its contract. Assumes nothing.
 use Rattle.host.proofs.Answering.{left_refused, left_done}
-use borrow.Author.Rules.{rules}
 use Rattle.host.proofs.left_by.Goals as goal
 
 pub returns-in-Refused : goal.returns-in-Refused

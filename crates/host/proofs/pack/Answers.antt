@@ -2,7 +2,6 @@
 use mathlib.Core.Path.{ap₂}
 use Prim.Native.Nat.{◌+◌, ◌*◌, ◌%◌}
 use Rattle.host.specs.Calls.{packed}
-use borrow.Author.Rules.{rules}
 use Rattle.host.proofs.pack.Goals as goal
 
 pub returns : goal.returns

@@ -1,6 +1,5 @@
 -- `host_many::run_many` meets its contract. Assumes nothing.
 use mathlib.Core.Path.{sym, ap, ◌∙◌}
-use borrow.Author.Rules.{rules}
 use Rattle.host_many.specs.Many.{many_by}
 use Rattle.host_many.proofs.Many.{fields_count}
 use Rattle.host_many.proofs.run_many.Goals as goal
