@@ -3,13 +3,15 @@ use mathlib.Core.Path.{◌≡◌, sym, ap, subst, ◌∙◌}
 use mathlib.Core.List.{List, ◌++◌}
 use Prim.Native.Nat.{ℕ, ◌≤◌, ◌+◌, ◌-◌}
 use native.Mathlib.Omega.{arith}
-use lib.ListN.{length, take, replicate, length-replicate, replicate-append-replicate}
+use lib.ListN.{length, take, drop, replicate, length-replicate, replicate-append-replicate}
 use lib.Seq.{length-take-le}
+use Rattle.std.proofs.lemmas.List.{take-replicate, drop-replicate}
 use Rattle.rule.specs.declared.Refusal.{Refusal}
 use Rattle.rule.specs.declared.Answer.TheVariants.{Refused}
 use Rattle.card.specs.declared.Session.{Session}
-use Rattle.step_records.specs.Records.{records_of}
+use Rattle.step_records.specs.Records.{Answered, records_of}
 use Rattle.step_records.proofs.Listings.{records_refused}
+use Rattle.drill.specs.declared.lines.Recorded.{Recorded}
 use Rattle.drill_words.specs.Filled.{Filled}
 use Rattle.drill.specs.Inner.Rooms.{lent_record, lent_records, recorded_in}
 
@@ -28,3 +30,10 @@ parted n k few = let whole : n + (k - n) ≡ k = omega arith in sym (replicate-a
 -- a refusal leaves all of it as it was
 pub recorded_refused : (s : Session) (n : ℕ) (why : Refusal) → n ≤ 20000 → (recorded_in s n).answer ≡ Refused why → (recorded_in s n).room ≡ lent_records 20000
 recorded_refused s n why few e = ap (λ r. r ++ lent_records (20000 - n)) (records_refused s (lent_records n) why e).0 ∙ sym (parted n 20000 few)
+
+-- the list was put into the part that is lent
+pub recorded_is : (s : Session) (n : ℕ) (left : Answered) → n ≤ 20000 → left ≡ records_of s (take n (lent_records 20000))
+    → ◌≡◌ {A = Recorded} (record { answer = left.answer; room = left.room ++ drop n (lent_records 20000) }) (recorded_in s n)
+recorded_is s n left few e =
+    ap (λ x. record { answer = left.answer; room = left.room ++ x }) (drop-replicate n 20000 lent_record)
+    ∙ ap (λ (x : Answered). record { answer = x.answer; room = x.room ++ lent_records (20000 - n) }) (e ∙ ap (records_of s) (take-replicate n 20000 lent_record few))

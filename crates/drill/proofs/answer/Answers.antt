@@ -1,6 +1,5 @@
 -- The answer to a line: each operation keeps what sessions keep, and a line that is none changes nothing. Assumes nothing.
 use Rattle.drill_text.proofs.Rooms.{told_short, told_rooms}
-use borrow.Author.Rules.{rules}
 use Rattle.drill.proofs.answer.Goals as goal
 
 pub move_line-requires : goal.move_line-requires

@@ -1,10 +1,7 @@
-use mathlib.Core.Path.{◌≡◌, refl, sym, subst}
+use mathlib.Core.Path.{◌≡◌}
 use Prim.Native.Nat.{◌+◌, ◌-◌, ◌≤◌}
-use native.Mathlib.Omega.{arith}
 use lib.ListN.{length}
-use Rattle.session.proofs.Kept.{none_good}
 use Rattle.drill.specs.Inner.Kept.{Kept}
-use borrow.Author.Rules.{rules}
 use Rattle.drill.proofs.run.Given as goal
 
 abbrev pub invariant-loop-from : goal.invariant-loop-from

@@ -24,10 +24,13 @@ made_card-requires c =
     let b = c.args.b.now in
     let card = part b card_at c.args.len in
     let bytes = part_bytes b (λ i. omega (arith, c.shared_slice_known-1.given i)) card_at c.args.len in
-    let e = loaded (goal.at.made_card-requires c).After-load-left in record { good = (
+    let e = loaded (goal.at.made_card-requires c).After-load-left in record {
+      good = (
         subst (λ x. Good x.session) (sym e) (load_good none card none_good bytes),
         subst (λ x. x.session.inputs ≤ 256) (sym e) (few_inputs card bytes _ (sym (ap (λ x. x.answer) e) ∙ c.in-Done.is)),
-      ); session_length_in_bounds = c.requires.0 }
+      );
+      session_length_in_bounds = c.requires.0;
+    }
 
 pub returns-in-Refused : goal.returns-in-Refused
 returns-in-Refused c =

@@ -20,7 +20,7 @@ loop-n-preserved c =
     let f = values a.kinds.now a.types.now in (
       omega arith,
       elim c.if-kinds-n-eq2.branch [
-        then-kinds-n-eq2 w ↦ w.out-is ∙ fill_more f false 256 l.n l.out _ (omega arith) l.invariant.1 (constant_value (get_or a.kinds.now l.n 0) (get_or a.types.now l.n 0) w.if-kinds-n-eq2.true)
+        | then-kinds-n-eq2 w ↦ w.out-is ∙ fill_more f false 256 l.n l.out _ (omega arith) l.invariant.1 (constant_value (get_or a.kinds.now l.n 0) (get_or a.types.now l.n 0) w.if-kinds-n-eq2.true)
         | else-kinds-n-eq2 w ↦ w.out-is ∙ fill_skip f false 256 l.n l.out l.invariant.1 (no_constant (get_or a.kinds.now l.n 0) (get_or a.types.now l.n 0) w.if-kinds-n-eq2.false)
       ],
     )

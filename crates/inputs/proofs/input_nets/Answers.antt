@@ -33,11 +33,11 @@ loop-n-preserved c =
     let l = c.loop-n in (
       omega arith,
       elim c.if-kinds-n-eq1.branch [
-        then-kinds-n-eq1 w ↦ w.j-is ∙ ap (λ (k : ℕ). k + 1) l.invariant.1 ∙ rank_input a.kinds.now l.n w.if-kinds-n-eq1.true
+        | then-kinds-n-eq1 w ↦ w.j-is ∙ ap (λ (k : ℕ). k + 1) l.invariant.1 ∙ rank_input a.kinds.now l.n w.if-kinds-n-eq1.true
         | else-kinds-n-eq1 w ↦ w.j-is ∙ l.invariant.1 ∙ rank_other a.kinds.now l.n w.if-kinds-n-eq1.false
       ],
       elim c.if-kinds-n-eq1.branch [
-        then-kinds-n-eq1 w ↦ w.nets-is ∙ nets_input a.kinds.now l.n l.j l.nets w.if-kinds-n-eq1.true l.invariant.1 l.invariant.2
+        | then-kinds-n-eq1 w ↦ w.nets-is ∙ nets_input a.kinds.now l.n l.j l.nets w.if-kinds-n-eq1.true l.invariant.1 l.invariant.2
         | else-kinds-n-eq1 w ↦ w.nets-is ∙ nets_other a.kinds.now l.n l.nets w.if-kinds-n-eq1.false l.invariant.2
       ],
     )

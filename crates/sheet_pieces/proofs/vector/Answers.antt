@@ -23,10 +23,13 @@ pub put_vector-length-requires : goal.put_vector-length-requires
 put_vector-length-requires c =
     let s = c.args.sheet.session in
     let v = c.args.v.now in
-    let e = c.vector-moved.ensures in record { good = subst (λ m. Good m.session) (sym e) (vector_good s c.requires.standing.good v); rested_value = (
+    let e = c.vector-moved.ensures in record {
+      good = subst (λ m. Good m.session) (sym e) (vector_good s c.requires.standing.good v);
+      rested_value = (
         ap (λ m. m.session.rested) e ∙ vector_rests s v _ (ap (λ m. m.answer) (sym e) ∙ c.in-Done.is),
         c.requires.standing.deep c.requires.stage_value.0 ∙ ap depth (sym (ap (λ m. card_of m.session) e ∙ vector_card s v)),
-      ) }
+      );
+    }
 
 pub returns-in-Refused : goal.returns-in-Refused
 returns-in-Refused c =

@@ -24,8 +24,11 @@ time-is c = c.narrow-t.ensures ∙ ap (λ e. get_or c.args.times.now e 0) c.wide
 
 placed : (c : After-wide16-g) → c.wide16-g.result < 256
 placed c =
-    let g = c.wide16-g.ensures in omega (arith, ((let it : StepEntry c.args.nets.now c.args.times.now c.wide16-e.result = subst (StepEntry c.args.nets.now c.args.times.now) (sym c.wide16-e.ensures)
-    (c.requires.by_index c.loop-i.i c.loop-i-test.true) in it)).net)
+    let g = c.wide16-g.ensures in omega (
+      arith,
+      ((let it : StepEntry c.args.nets.now c.args.times.now c.wide16-e.result = subst (StepEntry c.args.nets.now c.args.times.now) (sym c.wide16-e.ensures)
+          (c.requires.by_index c.loop-i.i c.loop-i-test.true) in it)).net,
+    )
 
 pub loop-i-init : goal.loop-i-init
 loop-i-init c = (omega arith, refl)

@@ -43,10 +43,10 @@ inside c = omega arith
 whole : (c : Else-not-body_fits) → Whole (length ((c.args.s.now))) ((c.args.self.at)) ((c.u16_at-kind.result)) ((c.u16_at-len.result)) c.first_byte-first.result
 whole c =
     record {
-  inside = (let it : (c.args.self.at) + 4 + (c.u16_at-len.result) ≤ length ((c.args.s.now)) = omega arith in it);
-  head = (let it : kind_fits ((c.u16_at-kind.result)) ((c.u16_at-len.result)) ≡ true = sym c.kind_fits.ensures ∙ c.if-not-kind_fits.false in it);
-  body = sym c.body_fits.ensures ∙ c.if-not-body_fits.false;
-}
+      inside = (let it : (c.args.self.at) + 4 + (c.u16_at-len.result) ≤ length ((c.args.s.now)) = omega arith in it);
+      head = (let it : kind_fits ((c.u16_at-kind.result)) ((c.u16_at-len.result)) ≡ true = sym c.kind_fits.ensures ∙ c.if-not-kind_fits.false in it);
+      body = sym c.body_fits.ensures ∙ c.if-not-body_fits.false;
+    }
 
 pub returns-then-n-at : goal.returns-then-n-at
 returns-then-n-at c = read_as _ _ _ _ _ _ refl refl refl (no_head (omega arith))

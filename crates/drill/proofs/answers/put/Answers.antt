@@ -1,7 +1,6 @@
 -- One byte: at its slot, by the test of room. Assumes nothing.
 use mathlib.Core.Path.{refl}
 use borrow.Author.Tests.{lt-ltb, le-ltb}
-use borrow.Author.Rules.{rules}
 use Rattle.drill.proofs.answers.put.Goals as goal
 
 pub returns-then-at-lt8192 : goal.returns-then-at-lt8192

@@ -1,8 +1,5 @@
 -- A room of nets: one entry after another. Assumes nothing.
-use Prim.Native.Nat.{◌-◌, ◌≤◌}
 use native.Mathlib.Omega.{arith}
-use lib.ListN.{length}
-use borrow.Author.Rules.{rules}
 use Rattle.drill.proofs.answers.put_nets.Goals as goal
 
 pub overflow_cast-room : goal.overflow_cast-room

@@ -1,6 +1,5 @@
 -- A room of records: one entry after another. Assumes nothing.
 use Prim.Native.Nat.{◌-◌, ◌≤◌}
-use borrow.Author.Rules.{rules}
 use Rattle.drill.proofs.answers.put_records.Given as goal
 
 abbrev pub invariant-loop-i : goal.invariant-loop-i

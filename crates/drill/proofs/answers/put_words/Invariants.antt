@@ -1,7 +1,6 @@
 -- A room of words: one entry after another. Assumes nothing.
 use Prim.Native.Nat.{◌-◌, ◌≤◌}
 use lib.ListN.{length}
-use borrow.Author.Rules.{rules}
 use Rattle.drill.proofs.answers.put_words.Given as goal
 
 abbrev pub invariant-loop-i : goal.invariant-loop-i

@@ -4,7 +4,6 @@ use Prim.Native.Nat.{ℕ}
 use native.Mathlib.Omega.{arith}
 use lib.ListN.{length-replicate}
 use Rattle.drill.proofs.Lent.{lent}
-use borrow.Author.Rules.{rules}
 use Rattle.drill.proofs.lines.bench_line.Goals as goal
 
 pub slice_bounds-order_line-end-3 : goal.slice_bounds-order_line-end-3

@@ -1,5 +1,4 @@
 -- The bytes of word 1: those that its digits spell. Assumes nothing.
-use borrow.Author.Rules.{rules}
 use Rattle.drill_words.specs.Digits.{bytes_of}
 use Rattle.drill.proofs.Lent.{filled_by}
 use Rattle.drill.proofs.lines.bytes_of.Goals as goal

@@ -1,6 +1,5 @@
 -- Rooms of the lengths that the line gives. Assumes nothing.
 use Rattle.drill.proofs.Lent.{lent}
-use borrow.Author.Rules.{rules}
 use Rattle.drill.proofs.lines.list_line.Goals as goal
 
 pub slice_bounds-put_list-end : goal.slice_bounds-put_list-end

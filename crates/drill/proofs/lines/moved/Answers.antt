@@ -3,7 +3,6 @@ use mathlib.Core.Path.{sym, ap, subst}
 use native.Mathlib.Omega.{arith}
 use Rattle.operations.proofs.Kept.{operated_good}
 use Rattle.drill.specs.Inner.Kept.{Kept}
-use borrow.Author.Rules.{rules}
 use Rattle.drill.proofs.lines.moved.Goals as goal
 
 pub returns : goal.returns

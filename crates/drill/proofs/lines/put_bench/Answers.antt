@@ -2,7 +2,6 @@
 use mathlib.Core.Path.{sym, ap, subst}
 use Rattle.bench.proofs.Benches.{bench_good}
 use Rattle.drill.specs.Inner.Kept.{Kept}
-use borrow.Author.Rules.{rules}
 use Rattle.drill.proofs.lines.put_bench.Goals as goal
 
 pub returns : goal.returns

@@ -13,7 +13,7 @@ loop-i-preserved c =
     let line = c.args.line.now in
     let i = c.loop-i.i in
     elim c.if-line-i-eq32.branch [
-      then-line-i-eq32 w ↦ omega (arith, later_stop 32 line i (omega arith) w.if-line-i-eq32.true)
+      | then-line-i-eq32 w ↦ omega (arith, later_stop 32 line i (omega arith) w.if-line-i-eq32.true)
       | else-line-i-eq32 w ↦ omega (arith, later_on 32 line i (omega arith) w.if-line-i-eq32.false)
     ]
 

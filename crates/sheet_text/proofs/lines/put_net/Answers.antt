@@ -26,13 +26,19 @@ second c =
 
 third : (c : After-put_values-c) → c.put_values-c.result ≤ c.args.at + 72
 third c =
-    omega (arith, c.requires.0, (let it : c.put_number-b.result ≤ c.args.at + 8 = omega (
+    omega (
       arith,
-      (let it : c.put_number-a.result ≤ c.args.at + 4 = omega (arith, c.put_number-a.ensures.end_is, byte_short c.args.net blank c.requires.1) in it),
-      c.put_number-b.ensures.end_is,
-      byte_short c.wide.result blank
-          c.wide.ensures.1,
-    ) in it), c.put_values-c.ensures.end_is, values_length c.args.word c.args.depth)
+      c.requires.0,
+      (let it : c.put_number-b.result ≤ c.args.at + 8 = omega (
+        arith,
+        (let it : c.put_number-a.result ≤ c.args.at + 4 = omega (arith, c.put_number-a.ensures.end_is, byte_short c.args.net blank c.requires.1) in it),
+        c.put_number-b.ensures.end_is,
+        byte_short c.wide.result blank
+            c.wide.ensures.1,
+      ) in it),
+      c.put_values-c.ensures.end_is,
+      values_length c.args.word c.args.depth,
+    )
 
 pub put_number-a-requires : goal.put_number-a-requires
 put_number-a-requires c = omega (arith, byte_short c.args.net blank c.requires.1)
