@@ -3,14 +3,18 @@ use mathlib.Core.Path.{◌≡◌, sym, ap, subst, ◌∙◌}
 use mathlib.Core.List.{List, ◌++◌}
 use Prim.Native.Nat.{ℕ, ◌≤◌, ◌+◌, ◌-◌}
 use native.Mathlib.Omega.{arith}
-use lib.ListN.{length, take, replicate, length-replicate, replicate-append-replicate}
+use lib.ListN.{length, take, drop, replicate, length-replicate, replicate-append-replicate}
 use lib.Seq.{length-take-le}
+use Rattle.std.proofs.lemmas.List.{take-replicate, drop-replicate}
 use Rattle.rule.specs.declared.Refusal.{Refusal}
+use Rattle.rule.specs.declared.Answer.{Answer}
 use Rattle.rule.specs.declared.Answer.TheVariants.{Refused}
 use Rattle.card.specs.declared.Session.{Session}
-use Rattle.step_records.specs.Records.{records_of}
+use Rattle.step_records.specs.declared.StepRecord.{StepRecord}
+use Rattle.step_records.specs.Records.{Answered, records_of}
 use Rattle.step_records.proofs.Listings.{records_refused}
 use Rattle.drill_words.specs.Filled.{Filled}
+use Rattle.drill.specs.declared.lines.Recorded.{Recorded}
 use Rattle.drill.specs.Inner.Rooms.{lent_record, lent_records, recorded_in}
 
 -- the first n entries of `[v; k]` are n
@@ -28,3 +32,12 @@ parted n k few = let whole : n + (k - n) ≡ k = omega arith in sym (replicate-a
 -- a refusal leaves all of it as it was
 pub recorded_refused : (s : Session) (n : ℕ) (why : Refusal) → n ≤ 20000 → (recorded_in s n).answer ≡ Refused why → (recorded_in s n).room ≡ lent_records 20000
 recorded_refused s n why few e = ap (λ r. r ++ lent_records (20000 - n)) (records_refused s (lent_records n) why e).0 ∙ sym (parted n 20000 few)
+
+-- what the list leaves of the first n records of the room, and the others as they were
+pub recorded : (s : Session) (n : ℕ) {answer : Answer} {room : List StepRecord} → n ≤ 20000
+    → ◌≡◌ {A = Answered} (record { answer = answer; room = room }) (records_of s (take n (lent_records 20000)))
+    → ◌≡◌ {A = Recorded} (record { answer = answer; room = room ++ drop n (lent_records 20000) }) (recorded_in s n)
+recorded s n few e =
+    let left : Answered = records_of s (lent_records n) in
+    ap (λ (x : Answered). record { answer = x.answer; room = x.room ++ drop n (lent_records 20000) }) (e ∙ ap (records_of s) (take-replicate n 20000 lent_record few))
+    ∙ ap (λ (rest : List StepRecord). record { answer = left.answer; room = left.room ++ rest }) (drop-replicate n 20000 lent_record)
