@@ -7,7 +7,7 @@ ghost use Rattle.drill.specs.Inner.Kept.{Kept};
 ghost use Rattle.drill.specs.Inner.Rooms.{recorded_in};
 
 use crate::Turn;
-use crate::answers::{put_answer, put_bytes, put_net, put_nets, put_records, put_words};
+use crate::answers::{Output, put_answer, put_bytes, put_net, put_nets, put_records, put_words};
 use card::Session;
 use operations::Move;
 use rule::Answer;
@@ -37,6 +37,7 @@ pub fn move_line(
     session: Session,
     line: &[u8],
     bytes: &mut [u8],
+    to: &mut Output,
     out: &mut [u8; 8192],
     at: usize,
 ) -> Turn
@@ -49,7 +50,7 @@ pub fn move_line(
     let left = moved(how, session, &bytes[..n]);
     let answer = left.answer;
     let next = left.session;
-    let end = put_answer(out, at, answer);
+    let end = put_answer(to, out, at, answer);
     Turn {
         session: next,
         at: end,
@@ -57,10 +58,10 @@ pub fn move_line(
 }
 
 // net N
-pub fn net_line(session: Session, n: u64, out: &mut [u8; 8192], at: usize) -> usize
+pub fn net_line(session: Session, n: u64, to: &mut Output, out: &mut [u8; 8192], at: usize) -> usize
     requires { Kept session }
 {
-    put_net(out, at, card::ask_net(session, n))
+    put_net(to, out, at, card::ask_net(session, n))
 }
 
 // A history into three lent rooms, and the rooms.
@@ -69,16 +70,17 @@ fn put_history(
     words: &mut [u64],
     befores: &mut [u8],
     flags: &mut [u8],
+    to: &mut Output,
     out: &mut [u8; 8192],
     at: usize,
 ) -> usize
     requires { Kept session }
 {
     let answer = history::history(session, words, befores, flags);
-    let head = put_answer(out, at, answer);
-    let first = put_words(out, head, words);
-    let second = put_bytes(out, first, befores);
-    put_bytes(out, second, flags)
+    let head = put_answer(to, out, at, answer);
+    let first = put_words(to, out, head, words);
+    let second = put_bytes(to, out, first, befores);
+    put_bytes(to, out, second, flags)
 }
 
 // history WORDS BEFORES FLAGS
@@ -87,6 +89,7 @@ pub fn history_line(
     a: u64,
     b: u64,
     c: u64,
+    to: &mut Output,
     out: &mut [u8; 8192],
     at: usize,
 ) -> usize
@@ -104,6 +107,7 @@ pub fn history_line(
         &mut words[..i],
         &mut befores[..j],
         &mut flags[..k],
+        to,
         out,
         at,
     )
@@ -114,19 +118,27 @@ fn put_list(
     session: Session,
     nets: &mut [u16],
     times: &mut [u8],
+    to: &mut Output,
     out: &mut [u8; 8192],
     at: usize,
 ) -> usize
     requires { Kept session }
 {
     let answer = step_list::list(session, nets, times);
-    let head = put_answer(out, at, answer);
-    let first = put_nets(out, head, nets);
-    put_bytes(out, first, times)
+    let head = put_answer(to, out, at, answer);
+    let first = put_nets(to, out, head, nets);
+    put_bytes(to, out, first, times)
 }
 
 // list NETS TIMES
-pub fn list_line(session: Session, a: u64, b: u64, out: &mut [u8; 8192], at: usize) -> usize
+pub fn list_line(
+    session: Session,
+    a: u64,
+    b: u64,
+    to: &mut Output,
+    out: &mut [u8; 8192],
+    at: usize,
+) -> usize
     requires kept { Kept session }
     requires a_bound { (a ≤ 20000) × (b ≤ 20000) }
 {
@@ -134,7 +146,7 @@ pub fn list_line(session: Session, a: u64, b: u64, out: &mut [u8; 8192], at: usi
     let mut times = [170u8; 20000];
     let i = a as usize;
     let j = b as usize;
-    put_list(session, &mut nets[..i], &mut times[..j], out, at)
+    put_list(session, &mut nets[..i], &mut times[..j], to, out, at)
 }
 
 // What the step list as records answers, and all the room that a part was lent of.
@@ -158,7 +170,13 @@ fn record_list(session: Session, n: usize) -> Recorded
 }
 
 // records ROOM
-pub fn records_line(session: Session, room: u64, out: &mut [u8; 8192], at: usize) -> usize
+pub fn records_line(
+    session: Session,
+    room: u64,
+    to: &mut Output,
+    out: &mut [u8; 8192],
+    at: usize,
+) -> usize
     requires kept { Kept session }
     requires room_bound { room ≤ 20000 }
 {
@@ -166,8 +184,8 @@ pub fn records_line(session: Session, room: u64, out: &mut [u8; 8192], at: usize
     let left = record_list(session, n);
     let answer = left.answer;
     let records = left.room;
-    let head = put_answer(out, at, answer);
-    put_records(out, head, records, n)
+    let head = put_answer(to, out, at, answer);
+    put_records(to, out, head, records, n)
 }
 
 // A trace into a lent room, and the room.
@@ -176,14 +194,15 @@ fn put_trace(
     n: u64,
     t: u64,
     room: &mut [u16],
+    to: &mut Output,
     out: &mut [u8; 8192],
     at: usize,
 ) -> usize
     requires { Kept session }
 {
     let answer = trace::trace(session, n, t, room);
-    let head = put_answer(out, at, answer);
-    put_nets(out, head, room)
+    let head = put_answer(to, out, at, answer);
+    put_nets(to, out, head, room)
 }
 
 // trace N TIME ROOM
@@ -192,6 +211,7 @@ pub fn trace_line(
     n: u64,
     t: u64,
     room: u64,
+    to: &mut Output,
     out: &mut [u8; 8192],
     at: usize,
 ) -> usize
@@ -200,7 +220,7 @@ pub fn trace_line(
 {
     let mut nets = [170u16; 20000];
     let k = room as usize;
-    put_trace(session, n, t, &mut nets[..k], out, at)
+    put_trace(session, n, t, &mut nets[..k], to, out, at)
 }
 
 // A bench run into a lent room, and the room.
@@ -210,6 +230,7 @@ fn put_bench(
     order: &[u16],
     k: u64,
     room: &mut [u8],
+    to: &mut Output,
     out: &mut [u8; 8192],
     at: usize,
 ) -> Turn
@@ -219,8 +240,8 @@ fn put_bench(
     let left = bench::bench(session, v, order, k, room);
     let answer = left.answer;
     let next = left.session;
-    let head = put_answer(out, at, answer);
-    let end = put_bytes(out, head, room);
+    let head = put_answer(to, out, at, answer);
+    let end = put_bytes(to, out, head, room);
     Turn {
         session: next,
         at: end,
@@ -235,6 +256,7 @@ fn order_line(
     entries: &mut [u16],
     k: u64,
     room: &mut [u8],
+    to: &mut Output,
     out: &mut [u8; 8192],
     at: usize,
 ) -> Turn
@@ -244,7 +266,7 @@ fn order_line(
     ensures { Kept result.session }
 {
     let n = drill_words::order_into(drill_words::word(line, 2), entries);
-    put_bench(session, v, &entries[..n], k, room, out, at)
+    put_bench(session, v, &entries[..n], k, room, to, out, at)
 }
 
 // bench HEX ORDER K ROOM
@@ -254,6 +276,7 @@ pub fn bench_line(
     bytes: &mut [u8],
     k: u64,
     room: u64,
+    to: &mut Output,
     out: &mut [u8; 8192],
     at: usize,
 ) -> Turn
@@ -274,6 +297,7 @@ pub fn bench_line(
         &mut entries,
         k,
         &mut values[..i],
+        to,
         out,
         at,
     )

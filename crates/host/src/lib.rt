@@ -1,5 +1,5 @@
-// Load, rest, vector and history for a host program, on numbers and byte slices. Between calls the session lives in lent bytes, from which each call makes
-// it again. Every call answers the paper's number and the count: number + 256 * count.
+// Load, rest, vector and history for a host program, on numbers and byte slices; `host_c` has them for C. Between calls the session lives in lent bytes,
+// from which each call makes it again. Every call answers the paper's number and the count: number + 256 * count.
 #![tactic(auto)]
 
 ghost use Rattle.std.specs.Prelude.{◌≡◌, ◌≤◌, length};
@@ -54,36 +54,31 @@ fn host_move(how: Move, b: &mut [u8], v: &[u8]) -> u64
     left_by(how, answer, b, v)
 }
 
-#[unsafe(no_mangle)]
-pub extern "C" fn krasvome_load(session: &mut [u8], card: &[u8]) -> u64
+pub fn krasvome_load(session: &mut [u8], card: &[u8]) -> u64
     ensures { record { answer = result; bytes = session.new } ≡ host_move Load session.old card.now }
 {
     host_move(Move::Load, session, card)
 }
 
-#[unsafe(no_mangle)]
-pub extern "C" fn krasvome_rest(session: &mut [u8], vector: &[u8]) -> u64
+pub fn krasvome_rest(session: &mut [u8], vector: &[u8]) -> u64
     ensures { record { answer = result; bytes = session.new } ≡ host_move Rest session.old vector.now }
 {
     host_move(Move::Rest, session, vector)
 }
 
-#[unsafe(no_mangle)]
-pub extern "C" fn krasvome_vector(session: &mut [u8], vector: &[u8]) -> u64
+pub fn krasvome_vector(session: &mut [u8], vector: &[u8]) -> u64
     ensures { record { answer = result; bytes = session.new } ≡ host_move (Vector Fields) session.old vector.now }
 {
     host_move(Move::Vector(Engine::Fields), session, vector)
 }
 
-#[unsafe(no_mangle)]
-pub extern "C" fn krasvome_steps(session: &mut [u8], vector: &[u8]) -> u64
+pub fn krasvome_steps(session: &mut [u8], vector: &[u8]) -> u64
     ensures { record { answer = result; bytes = session.new } ≡ host_move (Vector Steps) session.old vector.now }
 {
     host_move(Move::Vector(Engine::Steps), session, vector)
 }
 
-#[unsafe(no_mangle)]
-pub extern "C" fn krasvome_history(
+pub fn krasvome_history(
     session: &[u8],
     words: &mut [u64],
     befores: &mut [u8],
@@ -136,16 +131,14 @@ fn host_vectors(engine: Engine, session: &mut [u8], vectors: &[u8], words: &mut 
     do_many(engine, made.session, session, vectors, words)
 }
 
-#[unsafe(no_mangle)]
-pub extern "C" fn krasvome_vectors(session: &mut [u8], vectors: &[u8], words: &mut [u64]) -> u64
+pub fn krasvome_vectors(session: &mut [u8], vectors: &[u8], words: &mut [u64]) -> u64
     ensures { record { answer = result; bytes = session.new; words = words.new }
         ≡ host_vectors Fields session.old vectors.now words.old }
 {
     host_vectors(Engine::Fields, session, vectors, words)
 }
 
-#[unsafe(no_mangle)]
-pub extern "C" fn krasvome_vectors_steps(
+pub fn krasvome_vectors_steps(
     session: &mut [u8],
     vectors: &[u8],
     words: &mut [u64],
