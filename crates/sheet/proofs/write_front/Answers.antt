@@ -1,7 +1,6 @@
 -- `sheet::write_front` meets its contract. Assumes nothing.
 use mathlib.Core.Path.{sym}
 use lib.Seq.{length-take-le}
-use borrow.Author.Rules.{rules}
 use Rattle.sheet.proofs.write_front.Goals as goal
 
 pub slice_bounds-write_all-end : goal.slice_bounds-write_all-end
