@@ -9,7 +9,7 @@ use native.Mathlib.Decide.{dec_lt}
 use lib.ListN.{length, get_or, set, get_or-eq_default}
 use lib.Seq.{sets}
 use borrow.Author.Tests.{lt-ltb, le-ltb}
-use Rattle.lists.specs.Listed.{listed, upto}
+use Rattle.lists.specs.Listed.{upto}
 use Rattle.lists.specs.Filled.{fills, filled}
 use Rattle.lists.proofs.Listed.{length_listed, listed_at, listed_past, listed_ext, listed_self, upto_none, upto_more}
 
