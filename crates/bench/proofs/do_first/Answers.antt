@@ -20,8 +20,8 @@ use Rattle.bench.proofs.do_first.Goals.{After-start-vars, After-tops-before, Sta
 card : (c : Start) → HasCard c.args.s
 card c = c.requires.good.card (c.requires.good.rest c.requires.rested_value.0).0
 
-before-is : (c : After-tops-before) → c.tops-before.result ≡ listed (ends c.args.s) 256
-before-is c = tops_ends c.args.s c.tops-before.result c.tops-before.ensures
+before_is : (c : After-tops-before) → c.tops-before.result ≡ listed (ends c.args.s) 256
+before_is c = tops_ends c.args.s c.tops-before.result c.tops-before.ensures
 
 -- the variables start at the before values and the inputs' new ones
 started : (c : After-start-vars) → c.start-vars.result ≡ start_vars c.args.s (given c.args.s.kinds c.args.v.now)
@@ -57,4 +57,4 @@ returns c =
     let a = c.args in
     whole_done a.s (card (goal.at.returns c).Start) _ _ a.total a.order.now c.requires.taken a.first c.requires.first_le_total.0 (given a.s.kinds a.v.now) _ _ _ _ a.room.now _
     (started (goal.at.returns c).After-start-vars) c.run_order-count.ensures c.among-done.ensures c.put_bytes.ensures c.if-first-total.false
-    _ _ _ (before-is (goal.at.returns c).After-tops-before) c.histories_from-words.ensures c.with_words-next.ensures
+    _ _ _ (before_is (goal.at.returns c).After-tops-before) c.histories_from-words.ensures c.with_words-next.ensures

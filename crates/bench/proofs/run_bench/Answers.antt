@@ -18,8 +18,8 @@ card : (c : Start) → HasCard c.args.s
 card c = c.requires.good.card (c.requires.good.rest c.requires.rested_value.0).0
 
 -- the list that is put is the card's
-total-is : (c : After-put_list-total) → c.put_list-total.result ≡ length (step_list (card_of c.args.s))
-total-is c = list_total c.args.s ((let it : HasCard c.args.s = c.requires.good.card (c.requires.good.rest c.requires.rested_value.0).0 in it)) c.put_list-total.ensures
+total_is : (c : After-put_list-total) → c.put_list-total.result ≡ length (step_list (card_of c.args.s))
+total_is c = list_total c.args.s ((let it : HasCard c.args.s = c.requires.good.card (c.requires.good.rest c.requires.rested_value.0).0 in it)) c.put_list-total.ensures
 
 judged : (c : After-judge_order-verdict) → c.judge_order-verdict.result ≡ order_judged (card_of c.args.s) c.args.order.now
 judged c = verdict_is c.args.s ((let it : HasCard c.args.s = c.requires.good.card (c.requires.good.rest c.requires.rested_value.0).0 in it)) c.put_list-total.ensures (search rules) (search rules) c.args.order.now _ c.judge_order-verdict.ensures
@@ -36,12 +36,12 @@ judge_order-verdict-requires c =
 pub returns-then-total-k : goal.returns-then-total-k
 returns-then-total-k c =
     let a = c.args in
-    order_many a.s (given a.s.kinds a.v.now) a.order.now a.k a.room.now _ (judged (goal.at.returns-then-total-k c).After-judge_order-verdict) c.in-Passed.is _ (total-is (goal.at.returns-then-total-k c).After-put_list-total) _ c.if-total-k.true c.refused-then-total-k.ensures
+    order_many a.s (given a.s.kinds a.v.now) a.order.now a.k a.room.now _ (judged (goal.at.returns-then-total-k c).After-judge_order-verdict) c.in-Passed.is _ (total_is (goal.at.returns-then-total-k c).After-put_list-total) _ c.if-total-k.true c.refused-then-total-k.ensures
 
 pub returns-then-room-total : goal.returns-then-room-total
 returns-then-room-total c =
     let a = c.args in
-    order_short a.s (given a.s.kinds a.v.now) a.order.now a.k a.room.now _ (judged (goal.at.returns-then-room-total c).After-judge_order-verdict) c.in-Passed.is _ (total-is (goal.at.returns-then-room-total c).After-put_list-total) _ c.if-total-k.false c.if-room-total.true
+    order_short a.s (given a.s.kinds a.v.now) a.order.now a.k a.room.now _ (judged (goal.at.returns-then-room-total c).After-judge_order-verdict) c.in-Passed.is _ (total_is (goal.at.returns-then-room-total c).After-put_list-total) _ c.if-total-k.false c.if-room-total.true
     c.refused-then-room-total.ensures
 
 pub do_first-requires : goal.do_first-requires
@@ -56,5 +56,5 @@ returns-in-Refused c =
 pub returns-else-room-total : goal.returns-else-room-total
 returns-else-room-total c =
     let a = c.args in
-    order_done a.s (given a.s.kinds a.v.now) a.order.now a.k a.room.now _ (judged (goal.at.returns-else-room-total c).After-judge_order-verdict) c.in-Passed.is _ (total-is (goal.at.returns-else-room-total c).After-put_list-total) _ c.if-total-k.false c.if-room-total.false
+    order_done a.s (given a.s.kinds a.v.now) a.order.now a.k a.room.now _ (judged (goal.at.returns-else-room-total c).After-judge_order-verdict) c.in-Passed.is _ (total_is (goal.at.returns-else-room-total c).After-put_list-total) _ c.if-total-k.false c.if-room-total.false
     c.do_first.ensures

@@ -10,8 +10,8 @@ use Rattle.inputs.proofs.input_nets.Goals as goal
 use Rattle.inputs.proofs.input_nets.Goals.{then-kinds-n-eq1, else-kinds-n-eq1, Then-kinds-n-eq1}
 
 -- there are not more inputs ahead of a net than nets
-place-there : (c : Then-kinds-n-eq1) → c.loop-n.j < 256
-place-there c =
+place_there : (c : Then-kinds-n-eq1) → c.loop-n.j < 256
+place_there c =
     let l = c.loop-n in
     omega (arith, l.invariant.1, c.loop-n-test.true, rank_le c.args.kinds.now l.n)
 
@@ -19,13 +19,13 @@ pub loop-n-init : goal.loop-n-init
 loop-n-init c = (omega arith, sym (rank_none _), nets_none _)
 
 pub offset_bounds-nets-j : goal.offset_bounds-nets-j
-offset_bounds-nets-j c = let b = place-there (goal.at.offset_bounds-nets-j c).Then-kinds-n-eq1 in omega arith
+offset_bounds-nets-j c = let b = place_there (goal.at.offset_bounds-nets-j c).Then-kinds-n-eq1 in omega arith
 
 pub bounds-nets-j : goal.bounds-nets-j
-bounds-nets-j c = place-there (goal.at.bounds-nets-j c).Then-kinds-n-eq1
+bounds-nets-j c = place_there (goal.at.bounds-nets-j c).Then-kinds-n-eq1
 
 pub overflow_add-j : goal.overflow_add-j
-overflow_add-j c = let b = place-there (goal.at.overflow_add-j c).Then-kinds-n-eq1 in omega arith
+overflow_add-j c = let b = place_there (goal.at.overflow_add-j c).Then-kinds-n-eq1 in omega arith
 
 pub loop-n-preserved : goal.loop-n-preserved
 loop-n-preserved c =

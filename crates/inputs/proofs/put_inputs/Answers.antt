@@ -9,26 +9,26 @@ use Rattle.inputs.proofs.put_inputs.Goals as goal
 use Rattle.inputs.proofs.put_inputs.Goals.{After-wide16, In-loop-j}
 
 -- there are at most 256 bytes, and each has a net
-place-there : (c : In-loop-j) → c.loop-j.j < 256
-place-there c = omega (arith, c.loop-j-test.true, c.requires.0)
+place_there : (c : In-loop-j) → c.loop-j.j < 256
+place_there c = omega (arith, c.loop-j-test.true, c.requires.0)
 
-net-there : (c : After-wide16) → c.wide16.result < 256
-net-there c = subst (λ x. x < 256) (sym c.wide16.ensures) (c.requires.1 _)
+net_there : (c : After-wide16) → c.wide16.result < 256
+net_there c = subst (λ x. x < 256) (sym c.wide16.ensures) (c.requires.1 _)
 
 pub loop-j-init : goal.loop-j-init
 loop-j-init c = (omega arith, put_none _ _ _)
 
 pub offset_bounds-inputs-j : goal.offset_bounds-inputs-j
-offset_bounds-inputs-j c = let b = place-there (goal.at.offset_bounds-inputs-j c).In-loop-j in omega arith
+offset_bounds-inputs-j c = let b = place_there (goal.at.offset_bounds-inputs-j c).In-loop-j in omega arith
 
 pub bounds-inputs-j : goal.bounds-inputs-j
-bounds-inputs-j c = place-there (goal.at.bounds-inputs-j c).In-loop-j
+bounds-inputs-j c = place_there (goal.at.bounds-inputs-j c).In-loop-j
 
 pub offset_bounds-words-wide16 : goal.offset_bounds-words-wide16
-offset_bounds-words-wide16 c = let b = net-there (goal.at.offset_bounds-words-wide16 c).After-wide16 in omega arith
+offset_bounds-words-wide16 c = let b = net_there (goal.at.offset_bounds-words-wide16 c).After-wide16 in omega arith
 
 pub bounds-words-wide16 : goal.bounds-words-wide16
-bounds-words-wide16 c = net-there (goal.at.bounds-words-wide16 c).After-wide16
+bounds-words-wide16 c = net_there (goal.at.bounds-words-wide16 c).After-wide16
 
 pub loop-j-preserved : goal.loop-j-preserved
 loop-j-preserved c =

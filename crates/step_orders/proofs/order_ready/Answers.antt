@@ -16,11 +16,11 @@ entry c =
     subst (StepEntry c.args.nets.now c.args.times.now) (sym c.wide16-e.ensures)
     (c.requires.by_index c.loop-i.i c.loop-i-test.true)
 
-net-is : (c : After-narrow-t) → c.wide16-g.result ≡ get_or c.args.nets.now (get_or c.args.order.now c.loop-i.i 0) 0
-net-is c = c.wide16-g.ensures ∙ ap (λ e. get_or c.args.nets.now e 0) c.wide16-e.ensures
+net_is : (c : After-narrow-t) → c.wide16-g.result ≡ get_or c.args.nets.now (get_or c.args.order.now c.loop-i.i 0) 0
+net_is c = c.wide16-g.ensures ∙ ap (λ e. get_or c.args.nets.now e 0) c.wide16-e.ensures
 
-time-is : (c : After-narrow-t) → c.narrow-t.result ≡ get_or c.args.times.now (get_or c.args.order.now c.loop-i.i 0) 0
-time-is c = c.narrow-t.ensures ∙ ap (λ e. get_or c.args.times.now e 0) c.wide16-e.ensures
+time_is : (c : After-narrow-t) → c.narrow-t.result ≡ get_or c.args.times.now (get_or c.args.order.now c.loop-i.i 0) 0
+time_is c = c.narrow-t.ensures ∙ ap (λ e. get_or c.args.times.now e 0) c.wide16-e.ensures
 
 placed : (c : After-wide16-g) → c.wide16-g.result < 256
 placed c =
@@ -54,7 +54,7 @@ returns-then-not-reads_done c =
     let a = c.args in
     let l = c.loop-i in
     sym (l.invariant.1
-    ∙ ready_stop a.counts.now a.places.now a.sets.now a.nets.now a.times.now a.order.now l.done l.i c.wide16-g.result c.narrow-t.result (omega arith) (net-is (goal.at.returns-then-not-reads_done c).After-narrow-t) (time-is (goal.at.returns-then-not-reads_done c).After-narrow-t)
+    ∙ ready_stop a.counts.now a.places.now a.sets.now a.nets.now a.times.now a.order.now l.done l.i c.wide16-g.result c.narrow-t.result (omega arith) (net_is (goal.at.returns-then-not-reads_done c).After-narrow-t) (time_is (goal.at.returns-then-not-reads_done c).After-narrow-t)
     (sym c.reads_done.ensures ∙ c.if-not-reads_done.true))
 
 pub offset_bounds-done-g : goal.offset_bounds-done-g
@@ -78,7 +78,7 @@ loop-i-preserved c =
     let l = c.loop-i in (
       omega arith,
       l.invariant.1
-          ∙ ready_turn a.counts.now a.places.now a.sets.now a.nets.now a.times.now a.order.now l.done l.i c.wide16-g.result c.narrow-t.result (omega arith) (net-is (goal.at.loop-i-preserved c).After-narrow-t) (time-is (goal.at.loop-i-preserved c).After-narrow-t)
+          ∙ ready_turn a.counts.now a.places.now a.sets.now a.nets.now a.times.now a.order.now l.done l.i c.wide16-g.result c.narrow-t.result (omega arith) (net_is (goal.at.loop-i-preserved c).After-narrow-t) (time_is (goal.at.loop-i-preserved c).After-narrow-t)
           c.put.result (sym c.reads_done.ensures ∙ c.if-not-reads_done.false) (omega (arith, c.put.type_inv)) c.put.ensures,
     )
 

@@ -20,8 +20,8 @@ card : (c : Else-not-s) → HasCard c.args.s
 card c = c.requires.card c.if-not-s.false
 
 -- where the list is put: the card, and its list
-list-size : (p : After-put_list-total) → p.put_list-total.result ≡ length (step_list (card_of p.args.s))
-list-size p = list_total p.args.s (p.requires.card p.if-not-s.false) p.put_list-total.ensures
+list_size : (p : After-put_list-total) → p.put_list-total.result ≡ length (step_list (card_of p.args.s))
+list_size p = list_total p.args.s (p.requires.card p.if-not-s.false) p.put_list-total.ensures
 
 few : (p : After-put_list-total) → p.put_list-total.result ≤ 4096
 few p = list_few p.args.s (p.requires.card p.if-not-s.false) p.put_list-total.ensures
@@ -35,7 +35,7 @@ put_list-total-requires c = record { gates_bound = list_asked c.args.s (card (go
 pub returns-then-room-total : goal.returns-then-room-total
 returns-then-room-total c =
     let a = c.args in
-    c.no_records-then-room-total.ensures ∙ sym (listing_short a.s a.room (loaded (goal.at.returns-then-room-total c).Else-not-s) (omega (arith, list-size (goal.at.returns-then-room-total c).After-put_list-total, c.if-room-total.true)))
+    c.no_records-then-room-total.ensures ∙ sym (listing_short a.s a.room (loaded (goal.at.returns-then-room-total c).Else-not-s) (omega (arith, list_size (goal.at.returns-then-room-total c).After-put_list-total, c.if-room-total.true)))
 
 pub records_of-records-requires : goal.records_of-records-requires
 records_of-records-requires c = few (goal.at.records_of-records-requires c).After-put_list-total

@@ -18,8 +18,8 @@ pub steps_of-requires : goal.steps_of-requires
 steps_of-requires c l = c.requires.has_card
 
 -- the number is the card's
-steps-are : (c : After-steps_of) → (let s = c.args.s in c.steps_of.result ≡ length (step_list (card_of s)))
-steps-are c = c.steps_of.ensures ∙ steps_loaded c.args.s (loaded_is c.args.s c.requires.has_card)
+steps_are : (c : After-steps_of) → (let s = c.args.s in c.steps_of.result ≡ length (step_list (card_of s)))
+steps_are c = c.steps_of.ensures ∙ steps_loaded c.args.s (loaded_is c.args.s c.requires.has_card)
 
 pub put_named-requires : goal.put_named-requires
 put_named-requires c =
@@ -31,7 +31,7 @@ put_named-requires c =
       word_short c.steps_of.result lf
           (omega (
             arith,
-            steps-are (goal.at.put_named-requires c).After-steps_of,
+            steps_are (goal.at.put_named-requires c).After-steps_of,
             card_steps c.args.s
                 c.requires.has_card,
           )),
@@ -40,5 +40,5 @@ put_named-requires c =
 pub returns : goal.returns
 unfolding card_text first_line
 returns c =
-    put_same (ap₂ first_line c.requires.depth_value (steps-are (goal.at.returns c).After-steps_of))
+    put_same (ap₂ first_line c.requires.depth_value (steps_are (goal.at.returns c).After-steps_of))
     (put_then c.put_named-end.ensures c.put_named.ensures)
