@@ -138,11 +138,7 @@ pub fn krasvome_vectors(session: &mut [u8], vectors: &[u8], words: &mut [u64]) -
     host_vectors(Engine::Fields, session, vectors, words)
 }
 
-pub fn krasvome_vectors_steps(
-    session: &mut [u8],
-    vectors: &[u8],
-    words: &mut [u64],
-) -> u64
+pub fn krasvome_vectors_steps(session: &mut [u8], vectors: &[u8], words: &mut [u64]) -> u64
     ensures { record { answer = result; bytes = session.new; words = words.new }
         ≡ host_vectors Steps session.old vectors.now words.old }
 {
