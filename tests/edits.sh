@@ -1,9 +1,10 @@
 #!/usr/bin/env bash
 # Each must-fail edit was refused at the fact that its file names, and not for a name or for the shape of the code; and in a copy with a fault of each kind
-# the same test finds it. After rt ci, as in the gate.
+# the same test finds it. rt ci tries the same edits, and keeps one line of what it says of each; so they are tried here once more (try_edits.py).
 # needs: python3
 set -euo pipefail
 cd "$(dirname "$0")/.."
+RT_JOBS=${RT_JOBS:-4} python3 tests/try_edits.py .
 python3 tests/edits_test.py .
 
 room=$(mktemp -d)
@@ -25,19 +26,20 @@ seeded() {
 }
 
 # several together
-edits=crates/word/must-fail/code-1.edit log=target/must-fail/word/code-1/.log code="crates/word/src/lib.rt crates/word/src/pcset.rt"
+edits=crates/word/must-fail/code-1.edit log=target/must-fail/word/code-1.log code="crates/word/src/lib.rt crates/word/src/pcset.rt"
 seeded "$edits" 's/^at: `returns` of `least`/at: `returns-2` of `least`/' 'word/least_is_largest: it is not refused at `returns-2` of `least`'
 seeded "$edits" '/^at: `returns` of `least`/d' 'word/least_is_largest: it is not refused at a fact that its file names'
 seeded "$edits" 's/^old:         u64::trailing_zeros/old:         u64::count_ones/' 'it is not in a function of its own, but in size'
 seeded "$edits" 's/^at: `returns` of `least`/at: `returns` of `up`/' 'word/least_is_largest: it is in least, and names `returns` of `up`'
-seeded "$log" '/without_least\/Proof/d' 'word/least_left_in: it is not refused at `returns-2` of `without_least`'
-seeded "$log" '1i /r/proofs/pcset/PcSet/least/Proof.antt:1:1: error: `returns`: record `Lts.After` has no field `args`' 'word/least_is_largest: /r/proofs/pcset'
-seeded "$log" 'd' 'it was not tried: run rt ci'
+seeded "$log" '/without_least\/Answers/d' 'word/least_left_in: it is not refused at `returns` of `without_least`'
+seeded "$log" '1a ./proofs/pcset/PcSet/least/Answers.antt:1:1: error: `returns`: record `Lts.After` has no field `args`' 'word/least_is_largest: ./proofs/pcset'
+seeded "$log" '1a ./proofs/pcset/PcSet/least/Answers.antt:1:1: error: `low`: record `Lts.After` has no field `args`' 'word/least_is_largest: ./proofs/pcset'
+seeded "$log" 'd' 'it was not tried: run tests/edits.sh'
 
 # one alone
-edits=crates/card/must-fail/depth_of_nothing.edit log=target/must-fail/card/depth_of_nothing/.log code=crates/card/specs/Asked.antt
+edits=crates/card/must-fail/depth_of_nothing.edit log=target/must-fail/card/depth_of_nothing.log code=crates/card/specs/Asked.antt
 seeded "$edits" 's/^at: .*/at: `returns` of `judge`/' 'card/depth_of_nothing: it is not refused at `returns` of `judge`, but at'
 seeded "$edits" '/^at: /d' 'it is not refused at a fact that its file names'
-seeded "$log" '1i p/Proof.antt:1:1: error: `returns`: record `Lts.After` has no field `args`' 'has no field `args`'
-seeded "$log" 'd' 'it was not tried: run rt ci'
+seeded "$log" '1a ./proofs/p/Answers.antt:1:1: error: `returns`: record `Lts.After` has no field `args`' 'has no field `args`'
+seeded "$log" 'd' 'it was not tried: run tests/edits.sh'
 echo "edits: $seen seeded faults found"
