@@ -33,6 +33,20 @@ def names_of(cell):
 # --- 1. functions
 
 
+def bare(text):
+    """A function's text without its clauses."""
+    found, at = "", 0
+    for clause in re.finditer(r"^ *(?:requires|ensures) (?:\w+ )?\{", text, flags=re.M):
+        if clause.start() < at:
+            continue
+        found += text[at : clause.start()]
+        at, deep = clause.end(), 1
+        while deep and at < len(text):
+            deep += {"{": 1, "}": -1}.get(text[at], 0)
+            at += 1
+    return found + text[at:]
+
+
 def functions(crate):
     """The functions of a crate: the clauses of `requires` of each, what it calls by name, what it calls as a method, whether it is one, and whether it has an `ensures`."""
     found = {}
@@ -41,15 +55,15 @@ def functions(crate):
         heads = list(re.finditer(r"^( *)(?:pub )?(?:extern \"C\" )?fn (\w+)", text, flags=re.M))
         for head, after in zip(heads, heads[1:] + [None]):
             part = text[head.end():after.start() if after else len(text)]
-            asks = len(re.findall(r"^ *requires \{", part, flags=re.M))
-            body = re.sub(r"⌜[^⌝]*⌝", "", part)
+            asks = len(re.findall(r"^ *requires (?:\w+ )?\{", part, flags=re.M))
+            body = bare(part)
             calls = {(c or crate, n) for c, n in re.findall(r"(?<![.\w:])(?:([a-z_]+)::)?([a-z_0-9]+)\(", body)}
             methods = set(re.findall(r"(?:\.|\b[A-Z]\w*::)([a-z_0-9]+)\(", body))
-            found[head.group(2)] = (asks, calls, methods, bool(head.group(1)), "ensures {" in part)
+            found[head.group(2)] = (asks, calls, methods, bool(head.group(1)), bool(re.search(r"^ *ensures (?:\w+ )?\{", part, flags=re.M)))
     return found
 
 
-listed = [line.split(":")[0] for line in (root / "crates.txt").read_text().splitlines() if line and not line.startswith("#")]
+listed = [line.split(":")[0].split()[0] for line in (root / "crates.txt").read_text().splitlines() if line and not line.startswith("#")]
 known = {(crate, name): function for crate in listed for name, function in functions(crate).items()}
 of_method = {}
 for key in known:
@@ -225,7 +239,8 @@ for crate, name in sorted(public):
     of = sum(name in text.get("of", "").split(", ") for _, _, text in tried)
     if of < 2:
         faults.append(f"{crate}::{name} is public, and has {of} wrong answers")
-theorems = re.findall(r"`([a-z0-9]+(?:-[a-z0-9]+)+)`", contracts.split("<!-- edits -->")[0])
+laws = {name for crate in listed for file in (crates / crate / "proofs").glob("*.antt") for name in re.findall(r"^ *pub (\w+_\w+) ", file.read_text(encoding="utf-8"), flags=re.M)}
+theorems = [name for name in re.findall(r"`(\w+)`", contracts.split("<!-- edits -->")[0]) if name in laws]
 for name in sorted({name for name in theorems if theorems.count(name) > 1}):
     faults.append(f"docs/CONTRACTS.md names {name} {theorems.count(name)} times")
 if subprocess.run([sys.executable, str(root / "docs/figures"), "--check"], stdout=subprocess.DEVNULL, stderr=subprocess.DEVNULL).returncode:
@@ -242,7 +257,7 @@ for name, value in constant.findall((crates / "host_bytes/src/lib.rt").read_text
 if f"#define KRASVOME_SESSION {layout['SESSION_LENGTH']}\n" not in (root / "host/krasvome.h").read_text(encoding="utf-8"):
     faults.append(f"host/krasvome.h does not say that a session has {layout['SESSION_LENGTH']} bytes")
 places = {str(place) for place in layout.values() if place > 256}
-for crate in re.findall(r"^(?=.*\bhost_bytes\b)(\w+):", (root / "crates.txt").read_text(), flags=re.M):
+for crate in re.findall(r"^(?=.*\bhost_bytes\b)(\w+)(?: staticlib)?:", (root / "crates.txt").read_text(), flags=re.M):
     for file in sorted((crates / crate).rglob("*")):
         if file.suffix in (".rt", ".antt") and file.name != "Layout.antt":
             numbers = re.findall(r"\d[\d,]*", constant.sub("", file.read_text(encoding="utf-8")))

@@ -5,7 +5,7 @@ import re
 def visible(text):
     """The names that a file imports from specs/: where each is defined, as (crate, file, name)."""
     found = {}
-    for crate, file, names in re.findall(r"^(?:ghost )?use Rattle·(\w+)(?:·specs\.specs|\.specs)\.([\w.]+?)\.\{([^}]*)\}", text, flags=re.M):
+    for crate, file, names in re.findall(r"^(?:ghost )?use Rattle\.(\w+)\.specs\.([\w.]+?)\.\{([^}]*)\}", text, flags=re.M):
         for name in names.split(","):
             first, *last = name.strip().split(" as ")
             found[last[0] if last else first] = (crate, file.replace(".", "/"), first)
@@ -16,7 +16,7 @@ def cited(text, names):
     """What a text cites of some names; an operator by what stands between its arguments."""
     text = re.sub(r"--.*", "", text)
     words = set(re.findall(r"[^\s(){}\[\];,.]+", text))
-    return {place for name, place in names.items() if name in words or (name.strip("_") != name and name.strip("_") in words)}
+    return {place for name, place in names.items() if name in words or (name.strip("◌") != name and name.strip("◌") in words)}
 
 
 def definitions(crates):
