@@ -9,8 +9,8 @@
 3. In the README and in every document of docs/, names with a path behind them are defined in that file, and every other name occurs somewhere in the tree, but for
    docs/REQUESTS.md, which names what is still to come. docs/CONTRACTS.md names every edit and every theorem once, and a public operation has two edits at
    least, by what these say that they are of. docs/figures and docs/drawing would write what stands.
-4. host/krasvome.h has the length of a session that host_bytes has. No file of host_bytes, or of a crate that uses it, writes out where a part of a session stands, but for
-   the definitions and the constants themselves.
+4. host/krasvome.h has the length of a session that host_bytes has. The calls of host_c are those of host, with their clauses. No file of host_bytes, or of a crate that uses
+   it, writes out where a part of a session stands, but for the definitions and the constants themselves.
 5. No line of prose in the README or in docs/ has more than 160 characters, and none of code or definitions more than 200.
 """
 import pathlib
@@ -208,6 +208,8 @@ def files_at(path):
 pathed, tokens = 0, set()
 for place in ("crates", "host", "tests", "speed", "examples"):
     for file in (root / place).rglob("*"):
+        if "out" in file.relative_to(root).parts:  # what checks made
+            continue
         if file.is_file() and not file.stem.startswith("audit") and file.suffix in (".rt", ".antt", ".c", ".h", ".py", ".sh", ".txt", ".edit", ""):
             tokens |= set(re.findall(r"[A-Za-z_][\w-]*", file.read_text(encoding="utf-8", errors="replace"))) | {file.name, file.stem}
         elif file.is_dir():
@@ -254,11 +256,15 @@ layout = {}
 constant = re.compile(r"^pub const (\w+): usize = (.*);$", flags=re.M)
 for name, value in constant.findall((crates / "host_bytes/src/lib.rt").read_text(encoding="utf-8")):
     layout[name] = eval(value, {}, layout)
+for name in re.findall(r"^pub fn (krasvome_\w+)", (crates / "host/src/lib.rt").read_text(encoding="utf-8"), flags=re.M):
+    said = [re.search(rf"^ *pub (?:extern \"C\" )?fn {name}\b(.*?)^ *\{{$", (crates / crate / "src/lib.rt").read_text(encoding="utf-8"), flags=re.M | re.S) for crate in ("host", "host_c")]
+    if not said[1] or len({re.sub(r",?\s+(?=\))|\s+", "", it.group(1)) for it in said}) > 1:
+        faults.append(f"host_c::{name} does not have the clauses of host::{name}")
 if f"#define KRASVOME_SESSION {layout['SESSION_LENGTH']}\n" not in (root / "host/krasvome.h").read_text(encoding="utf-8"):
     faults.append(f"host/krasvome.h does not say that a session has {layout['SESSION_LENGTH']} bytes")
 places = {str(place) for place in layout.values() if place > 256}
 for crate in re.findall(r"^(?=.*\bhost_bytes\b)(\w+)(?: staticlib)?:", (root / "crates.txt").read_text(), flags=re.M):
-    for file in sorted((crates / crate).rglob("*")):
+    for file in sorted(file for part in ("src", "specs", "proofs") for file in (crates / crate / part).rglob("*")):
         if file.suffix in (".rt", ".antt") and file.name != "Layout.antt":
             numbers = re.findall(r"\d[\d,]*", constant.sub("", file.read_text(encoding="utf-8")))
             for place in sorted(places & {number.replace(",", "") for number in numbers}):
