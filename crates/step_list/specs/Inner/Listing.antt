@@ -1,5 +1,5 @@
 -- Inner: cited by contracts between functions alone, and by laws. The step list from stored sets and order, and that it stands in two arrays. It is the
--- card's: `List-held` (step_list/proofs/Cards.antt). Assumes nothing.
+-- card's: `list_held` (step_list/proofs/Cards.antt). Assumes nothing.
 use Rattle.std.specs.Prelude.{◌≡◌, List, [], ◌∷◌, ◌++◌, ℕ, length, get_or}
 use Rattle.lists.specs.Entries.{each, when, from}
 use Rattle.lists.specs.Listed.{listed}

@@ -1,5 +1,5 @@
 -- Inner: cited by contracts between functions alone, and by laws. The records of the list as they are found, ahead of lent room. They are those that are
--- handed out: `Listing-none`, `listing_short`, `Listing-full` (step_records/proofs/Listings.antt). Assumes nothing.
+-- handed out: `listing_none`, `listing_short`, `listing_full` (step_records/proofs/Listings.antt). Assumes nothing.
 use Rattle.std.specs.Prelude.{cond, List, ℕ, leb, length, get_or, replicate}
 use Rattle.rule.specs.Steps.{step_list}
 use Rattle.rule.specs.declared.Refusal.{Refusal}
