@@ -40,7 +40,7 @@ def refusals(log, crate):
         if here and not re.search(r"declarations? that depends? on|was not admitted", said):
             *folders, file = here.group(1).split("/")
             name = f"`{here.group(2)}`" if here.group(2) else None
-            if file in ("Answers", "Invariants", "Proof"):
+            if folders and file in ("Answers", "Invariants", "Proof"):
                 found.append((name and f"{name} of `{folders[-1]}`", folders[-1].lstrip("+"), said))
             else:
                 found.append((name and f"{name} ({crate}/proofs/{here.group(1)}.antt)", None, said))
@@ -81,6 +81,7 @@ log = """./proofs/pcset/PcSet/least/Answers.antt:5:13: error: `returns`: as prin
 ./proofs/most/Answers.antt:9:1: error: 2 declarations that depend on `inside`, which was rejected, were not checked: returns
 ./proofs/few/Answers.antt:6:31: error: `returns-then-n-lt10`: `goal.returns-then-n-lt10`: module `Rattle.word.proofs.few.Goals` has no `returns-then-n-lt10` that can be named from here
 ./proofs/few/Answers.antt:8:12: error: `returns`: `omega`: the goal does not follow from what it read. All of that holds, and the goal fails, at `c.args.n` = 256
+./proofs/Answers.antt:1:1: error: `bit_high`: expected type `bit x 0 ≡ true`, but this has type `bit x 1 ≡ true`
 ./proofs/Bits.antt:1:1: error: `bit_low`: expected type `bit x 0 ≡ true`, but this has type `bit x 1 ≡ true`
 note: src/lib.rt:44:29: it is not proved that what `digit` requires holds at this call (`digit-requires`); `search` gave up at one of its limits
 note: a goal may be false even if its line does not say so
@@ -94,6 +95,7 @@ for fact, alone, right in (
     ("`returns` of `few`", False, True),
     ("`returns-then-n-lt10` of `few`", False, False),
     ("`bit_low` (word/proofs/Bits.antt)", True, True),
+    ("`bit_high` (word/proofs/Answers.antt)", True, True),
     ("`digit-requires` of `+put_decimal`", False, True),
     ("`returns-in-Steps` of `mark`", False, True),
     ("`returns` of `keep`", False, False),
