@@ -1,7 +1,7 @@
 """What the check says of each must-fail edit: `try_edits.py ROOT [CRATE ..]` makes the changes of each file crates/NAME/must-fail/FILE.edit in a copy of the crates,
 runs `rt check` in the crate there, and writes what it says to ROOT/target/must-fail/NAME/FILE.log. `rt ci` and `rt must-fail` try the same edits and say one line of
 each; where an edit is refused, and whether each of several is, only the whole of it says. A log whose first line has the sum of all that its check reads is not made
-again. RT_JOBS checks run side by side, 1 where that is not set; each worker has a copy of its own, since a check works in its crate alone."""
+again. RT_JOBS checks run side by side, 1 where that is not set; each worker has a copy of its own, which it puts back after each file."""
 import hashlib
 import os
 import pathlib
@@ -61,13 +61,17 @@ def work(room):
             return
         folder = room / "crates" / crate
         texts, said = changed(edit, folder)
-        if said is None:
+        if said:
+            print(f"edits: {crate}/{edit.stem}: {said}", file=sys.stderr)
+        else:
             were = {file: file.read_bytes() for file in texts}
             try:
                 for file, text in texts.items():
                     file.write_text(text, encoding="utf-8")
                 ran = subprocess.run(["rt", "check"], cwd=folder, stdin=subprocess.DEVNULL, stdout=subprocess.PIPE, stderr=subprocess.STDOUT, errors="replace")
-                said = ran.stdout.decode(errors="replace") if isinstance(ran.stdout, bytes) else ran.stdout
+                said = ran.stdout
+                if ran.returncode not in (0, 1):  # killed, say: it judged nothing, and is made again
+                    made = "of nothing"
             finally:
                 for file, text in were.items():
                     file.write_bytes(text)
