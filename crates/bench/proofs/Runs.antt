@@ -79,7 +79,7 @@ module _ (s : Session) (h : HasCard s) (nets times : List ℕ) (total : ℕ) (or
         (started : vars ≡ start_vars s new)
         (made : record { words = after; count = count } ≡ ran s.types s.counts s.places s.sets vars (ordered_steps nets times order k))
         (marked : done ≡ listed (stands order k) 4096)
-        (Filled-is : written ≡ filled (byte_in after nets times done) total room) where
+        (filled_is : written ≡ filled (byte_in after nets times done) total room) where
       abbrev left : Ran
       left = record { words = after; count = count }
 
@@ -96,7 +96,7 @@ module _ (s : Session) (h : HasCard s) (nets times : List ℕ) (total : ℕ) (or
 
       written_is : written ≡ filled (byte_at c after (take k order)) (length (step_list c)) room
       written_is =
-          Filled-is ∙ fills_same 0 (byte_in after nets times done) (byte_at c after (take k order)) total room byte_is
+          filled_is ∙ fills_same 0 (byte_in after nets times done) (byte_at c after (take k order)) total room byte_is
           ∙ ap (λ n. filled (byte_at c after (take k order)) n room) t.total_is
 
       abbrev benched_as : Ran → Session → Benched

@@ -17,41 +17,41 @@ use Rattle.card.specs.declared.Session.{Session}
 use Rattle.card.specs.Session.{none}
 use Rattle.card.specs.Held.{Carded}
 use Rattle.card.specs.Asked.{depth_asked, steps_asked}
-use Rattle.card.specs.contracts.empty as empty-fn
+use Rattle.card.specs.contracts.empty as empty_fn
 use Rattle.card.specs.contracts.load as load_fn
-use Rattle.card.specs.contracts.ask_net as ask-fn
-use Rattle.card.specs.contracts.depth_of as depth-fn
-use Rattle.card.specs.contracts.steps_of as count-fn
+use Rattle.card.specs.contracts.ask_net as ask_fn
+use Rattle.card.specs.contracts.depth_of as depth_fn
+use Rattle.card.specs.contracts.steps_of as count_fn
 use Rattle.session.specs.Good.{Good}
 use Rattle.session.specs.contracts.rest as rest_fn
-use Rattle.session.specs.contracts.vector as vector-fn
-use Rattle.history.specs.contracts.history as history-fn
-use Rattle.trace.specs.contracts.trace as trace-fn
-use Rattle.step_list.specs.contracts.list as list-fn
-use Rattle.step_run.specs.contracts.vector_steps as steps-fn
-use Rattle.step_records.specs.contracts.list_records as records-fn
-use Rattle.bench.specs.contracts.bench as bench-fn
+use Rattle.session.specs.contracts.vector as vector_fn
+use Rattle.history.specs.contracts.history as history_fn
+use Rattle.trace.specs.contracts.trace as trace_fn
+use Rattle.step_list.specs.contracts.list as list_fn
+use Rattle.step_run.specs.contracts.vector_steps as steps_fn
+use Rattle.step_records.specs.contracts.list_records as records_fn
+use Rattle.bench.specs.contracts.bench as bench_fn
 use Rattle.sheet_pieces.specs.declared.Sheet.{Sheet}
 use Rattle.sheet_pieces.specs.Pieces.{Standing, fresh, piece_of, Written, written, is_over}
-use Rattle.sheet_pieces.specs.contracts.begin as begin-fn
-use Rattle.sheet_pieces.specs.contracts.next as next-fn
-use Rattle.sheet_pieces.specs.contracts.is_over as over-fn
+use Rattle.sheet_pieces.specs.contracts.begin as begin_fn
+use Rattle.sheet_pieces.specs.contracts.next as next_fn
+use Rattle.sheet_pieces.specs.contracts.is_over as over_fn
 use Rattle.operations.specs.declared.Engine.{Engine}
 use Rattle.operations.specs.declared.Engine.TheVariants.{Fields, Steps}
 use Rattle.operations.specs.declared.Move.{Move}
 use Rattle.operations.specs.declared.Move.TheVariants.{Load, Rest, Vector}
 use Rattle.operations.specs.Operated.{vector_by, operated}
-use Rattle.operations.specs.contracts.vector_by as by-fn
-use Rattle.operations.specs.contracts.operate as operate-fn
+use Rattle.operations.specs.contracts.vector_by as by_fn
+use Rattle.operations.specs.contracts.operate as operate_fn
 use Rattle.host.specs.Vectors.{ManyShown, host_vectors}
 use Rattle.host.specs.Calls.{Hosted, host_move, Shown, host_history}
-use Rattle.host.specs.contracts.krasvome_load as host-load-fn
-use Rattle.host.specs.contracts.krasvome_rest as host-rest-fn
-use Rattle.host.specs.contracts.krasvome_vector as host-vector-fn
-use Rattle.host.specs.contracts.krasvome_steps as host-steps-fn
-use Rattle.host.specs.contracts.krasvome_history as host-history-fn
-use Rattle.host.specs.contracts.krasvome_vectors as host-vectors-fn
-use Rattle.host.specs.contracts.krasvome_vectors_steps as host-vectors-steps-fn
+use Rattle.host.specs.contracts.krasvome_load as host_load_fn
+use Rattle.host.specs.contracts.krasvome_rest as host_rest_fn
+use Rattle.host.specs.contracts.krasvome_vector as host_vector_fn
+use Rattle.host.specs.contracts.krasvome_steps as host_steps_fn
+use Rattle.host.specs.contracts.krasvome_history as host_history_fn
+use Rattle.host.specs.contracts.krasvome_vectors as host_vectors_fn
+use Rattle.host.specs.contracts.krasvome_vectors_steps as host_vectors_steps_fn
 use Rattle.demands.specs.Operations.{Operation, load, rest, vector, history, list, records, ask, trace, bench, Result, Promised, handed, outcome}
 
 -- what the contract of a sheet's next piece allows
@@ -79,82 +79,82 @@ module _ {M : Type 1} {𝓤 : Ura M} (𝓛 : Logic 𝓤) (mem : Memory → SProp
   pub rest_promises : Promises rest_fn.ended (rest_fn.clauses 𝓛 mem run) (λ κs a r e. Promised a.0 (rest a.1.0.now) r)
   rest_promises κs a g r e = refl
 
-  pub vector_promises : Promises vector-fn.ended (vector-fn.clauses 𝓛 mem run) (λ κs a r e. Promised a.0 (vector Fields a.1.0.now) r)
+  pub vector_promises : Promises vector_fn.ended (vector_fn.clauses 𝓛 mem run) (λ κs a r e. Promised a.0 (vector Fields a.1.0.now) r)
   vector_promises κs a g r e = refl
 
-  pub steps_promises : Promises steps-fn.ended (steps-fn.clauses 𝓛 mem run) (λ κs a r e. Promised a.0 (vector Steps a.1.0.now) r)
+  pub steps_promises : Promises steps_fn.ended (steps_fn.clauses 𝓛 mem run) (λ κs a r e. Promised a.0 (vector Steps a.1.0.now) r)
   steps_promises κs a g r e = refl
 
-  pub history_promises : Promises history-fn.ended (history-fn.clauses 𝓛 mem run) (λ κs a r e. Promised a.0 (history a.1.0.now a.1.1.0.now a.1.1.1.0.now)
+  pub history_promises : Promises history_fn.ended (history_fn.clauses 𝓛 mem run) (λ κs a r e. Promised a.0 (history a.1.0.now a.1.1.0.now a.1.1.1.0.now)
       (record { answer = r; words = e.1.0.now; befores = e.1.1.0.now; flags = e.1.1.1.0.now }))
   history_promises κs a g r e = refl
 
-  pub list_promises : Promises list-fn.ended (list-fn.clauses 𝓛 mem run) (λ κs a r e. Promised a.0 (list a.1.0.now a.1.1.0.now) (record { answer = r; nets = e.1.0.now; times = e.1.1.0.now }))
+  pub list_promises : Promises list_fn.ended (list_fn.clauses 𝓛 mem run) (λ κs a r e. Promised a.0 (list a.1.0.now a.1.1.0.now) (record { answer = r; nets = e.1.0.now; times = e.1.1.0.now }))
   list_promises κs a g r e = refl
 
-  pub records_promises : Promises records-fn.ended (records-fn.clauses 𝓛 mem run) (λ κs a r e. Promised a.0 (records a.1.0.now) (record { answer = r; room = e.1.0.now }))
+  pub records_promises : Promises records_fn.ended (records_fn.clauses 𝓛 mem run) (λ κs a r e. Promised a.0 (records a.1.0.now) (record { answer = r; room = e.1.0.now }))
   records_promises κs a g r e = refl
 
-  pub ask_promises : Promises ask-fn.ended (ask-fn.clauses 𝓛 mem run) (λ κs a r e. Promised a.0 (ask a.1.0) r)
+  pub ask_promises : Promises ask_fn.ended (ask_fn.clauses 𝓛 mem run) (λ κs a r e. Promised a.0 (ask a.1.0) r)
   ask_promises κs a g r e = refl
 
-  pub trace_promises : Promises trace-fn.ended (trace-fn.clauses 𝓛 mem run) (λ κs a r e. Promised a.0 (trace a.1.0 a.1.1.0 a.1.1.1.0.now) (record { answer = r; room = e.1.1.1.0.now }))
+  pub trace_promises : Promises trace_fn.ended (trace_fn.clauses 𝓛 mem run) (λ κs a r e. Promised a.0 (trace a.1.0 a.1.1.0 a.1.1.1.0.now) (record { answer = r; room = e.1.1.1.0.now }))
   trace_promises κs a g r e = refl
 
-  pub bench_promises : Promises bench-fn.ended (bench-fn.clauses 𝓛 mem run) (λ κs a r e. Promised a.0 (bench a.1.0.now a.1.1.0.now a.1.1.1.0 a.1.1.1.1.0.now)
+  pub bench_promises : Promises bench_fn.ended (bench_fn.clauses 𝓛 mem run) (λ κs a r e. Promised a.0 (bench a.1.0.now a.1.1.0.now a.1.1.1.0 a.1.1.1.1.0.now)
       (record { moved = r; room = e.1.1.1.1.0.now }))
   bench_promises κs a g r e = refl
 
   -- the empty session, what is asked of a card as a whole, and the operations that move a session under one name
-  pub empty_promises : Promises empty-fn.ended (empty-fn.clauses 𝓛 mem run) (λ κs a r e. r ≡ none)
+  pub empty_promises : Promises empty_fn.ended (empty_fn.clauses 𝓛 mem run) (λ κs a r e. r ≡ none)
   empty_promises κs a g r e = refl
 
-  pub depth_promises : Promises depth-fn.ended (depth-fn.clauses 𝓛 mem run) (λ κs a r e. r ≡ depth_asked a.0)
+  pub depth_promises : Promises depth_fn.ended (depth_fn.clauses 𝓛 mem run) (λ κs a r e. r ≡ depth_asked a.0)
   depth_promises κs a g r e = refl
 
-  pub count_promises : Promises count-fn.ended (count-fn.clauses 𝓛 mem run) (λ κs a r e. r ≡ steps_asked a.0)
+  pub count_promises : Promises count_fn.ended (count_fn.clauses 𝓛 mem run) (λ κs a r e. r ≡ steps_asked a.0)
   count_promises κs a g r e = refl
 
-  pub by_promises : Promises by-fn.ended (by-fn.clauses 𝓛 mem run) (λ κs a r e. r ≡ vector_by a.0 a.1.0 a.1.1.0.now)
+  pub by_promises : Promises by_fn.ended (by_fn.clauses 𝓛 mem run) (λ κs a r e. r ≡ vector_by a.0 a.1.0 a.1.1.0.now)
   by_promises κs a g r e = refl
 
-  pub operate_promises : Promises operate-fn.ended (operate-fn.clauses 𝓛 mem run) (λ κs a r e. r ≡ operated a.0 a.1.0 a.1.1.0.now)
+  pub operate_promises : Promises operate_fn.ended (operate_fn.clauses 𝓛 mem run) (λ κs a r e. r ≡ operated a.0 a.1.0 a.1.1.0.now)
   operate_promises κs a g r e = refl
 
   -- a sheet: where it begins, and whether more is to come
-  pub begin_promises : Promises begin-fn.ended (begin-fn.clauses 𝓛 mem run) (λ κs a r e. (r ≡ fresh) × Standing r)
+  pub begin_promises : Promises begin_fn.ended (begin_fn.clauses 𝓛 mem run) (λ κs a r e. (r ≡ fresh) × Standing r)
   begin_promises κs a g r e = refl
 
-  pub over_promises : Promises over-fn.ended (over-fn.clauses 𝓛 mem run) (λ κs a r e. r ≡ is_over a.0.stage)
+  pub over_promises : Promises over_fn.ended (over_fn.clauses 𝓛 mem run) (λ κs a r e. r ≡ is_over a.0.stage)
   over_promises κs a g r e = refl
 
   -- the next piece of a sheet: the piece and the page; and what it asks of a sheet is kept
-  pub next_promises : Promises next-fn.ended (next-fn.clauses 𝓛 mem run) (λ κs a r e.
+  pub next_promises : Promises next_fn.ended (next_fn.clauses 𝓛 mem run) (λ κs a r e.
       PieceAllowed a.0 a.1.0.now a.1.1.0.now (record { piece = r; page = e.1.1.0.now }) × Standing r.sheet × (r.length ≤ 20480))
   next_promises κs a g r e = refl
 
   -- the host's calls: number and count, the session's bytes, and what else is lent
-  pub host_load_promises : Promises host-load-fn.ended (host-load-fn.clauses 𝓛 mem run) (λ κs a r e. record { answer = r; bytes = e.0.now } ≡ host_move Load a.0.now a.1.0.now)
+  pub host_load_promises : Promises host_load_fn.ended (host_load_fn.clauses 𝓛 mem run) (λ κs a r e. record { answer = r; bytes = e.0.now } ≡ host_move Load a.0.now a.1.0.now)
   host_load_promises κs a g r e = refl
 
-  pub host_rest_promises : Promises host-rest-fn.ended (host-rest-fn.clauses 𝓛 mem run) (λ κs a r e. record { answer = r; bytes = e.0.now } ≡ host_move Rest a.0.now a.1.0.now)
+  pub host_rest_promises : Promises host_rest_fn.ended (host_rest_fn.clauses 𝓛 mem run) (λ κs a r e. record { answer = r; bytes = e.0.now } ≡ host_move Rest a.0.now a.1.0.now)
   host_rest_promises κs a g r e = refl
 
-  pub host_vector_promises : Promises host-vector-fn.ended (host-vector-fn.clauses 𝓛 mem run) (λ κs a r e. record { answer = r; bytes = e.0.now } ≡ host_move (Vector Fields) a.0.now a.1.0.now)
+  pub host_vector_promises : Promises host_vector_fn.ended (host_vector_fn.clauses 𝓛 mem run) (λ κs a r e. record { answer = r; bytes = e.0.now } ≡ host_move (Vector Fields) a.0.now a.1.0.now)
   host_vector_promises κs a g r e = refl
 
-  pub host_steps_promises : Promises host-steps-fn.ended (host-steps-fn.clauses 𝓛 mem run) (λ κs a r e. record { answer = r; bytes = e.0.now } ≡ host_move (Vector Steps) a.0.now a.1.0.now)
+  pub host_steps_promises : Promises host_steps_fn.ended (host_steps_fn.clauses 𝓛 mem run) (λ κs a r e. record { answer = r; bytes = e.0.now } ≡ host_move (Vector Steps) a.0.now a.1.0.now)
   host_steps_promises κs a g r e = refl
 
-  pub host_history_promises : Promises host-history-fn.ended (host-history-fn.clauses 𝓛 mem run) (λ κs a r e.
+  pub host_history_promises : Promises host_history_fn.ended (host_history_fn.clauses 𝓛 mem run) (λ κs a r e.
       record { answer = r; words = e.1.0.now; befores = e.1.1.0.now; flags = e.1.1.1.0.now } ≡ host_history a.0.now a.1.0.now a.1.1.0.now a.1.1.1.0.now)
   host_history_promises κs a g r e = refl
 
-  pub host_vectors_promises : Promises host-vectors-fn.ended (host-vectors-fn.clauses 𝓛 mem run) (λ κs a r e.
+  pub host_vectors_promises : Promises host_vectors_fn.ended (host_vectors_fn.clauses 𝓛 mem run) (λ κs a r e.
       record { answer = r; bytes = e.0.now; words = e.1.1.0.now } ≡ host_vectors Fields a.0.now a.1.0.now a.1.1.0.now)
   host_vectors_promises κs a g r e = refl
 
-  pub host_vectors_steps_promises : Promises host-vectors-steps-fn.ended (host-vectors-steps-fn.clauses 𝓛 mem run) (λ κs a r e.
+  pub host_vectors_steps_promises : Promises host_vectors_steps_fn.ended (host_vectors_steps_fn.clauses 𝓛 mem run) (λ κs a r e.
       record { answer = r; bytes = e.0.now; words = e.1.1.0.now } ≡ host_vectors Steps a.0.now a.1.0.now a.1.1.0.now)
   host_vectors_steps_promises κs a g r e = refl
 
@@ -168,31 +168,31 @@ module _ {M : Type 1} {𝓤 : Ura M} (𝓛 : Logic 𝓤) (mem : Memory → SProp
   -- "A contract may ask of it the rule that the empty one is shown to meet and every operation to keep, and asks nothing else of its caller." That rule is `Good`, or its part
   -- about the card, `Carded`; of a sheet `Standing`. The empty session, load, the beginning and the end of a sheet, and the host's calls ask nothing at all
   pub record AsksNothing : Type 2 where
-    pub empty : AsksNone empty-fn.ended (empty-fn.clauses 𝓛 mem run)
+    pub empty : AsksNone empty_fn.ended (empty_fn.clauses 𝓛 mem run)
     pub load : AsksNone load_fn.ended (load_fn.clauses 𝓛 mem run)
     pub rest : Asks rest_fn.ended (rest_fn.clauses 𝓛 mem run) (λ κs a. Good a.0)
-    pub vector : Asks vector-fn.ended (vector-fn.clauses 𝓛 mem run) (λ κs a. Good a.0)
-    pub steps : Asks steps-fn.ended (steps-fn.clauses 𝓛 mem run) (λ κs a. Good a.0)
-    pub vector_by_lem : Asks by-fn.ended (by-fn.clauses 𝓛 mem run) (λ κs a. Good a.1.0)
-    pub operate : Asks operate-fn.ended (operate-fn.clauses 𝓛 mem run) (λ κs a. Good a.1.0)
-    pub history : Asks history-fn.ended (history-fn.clauses 𝓛 mem run) (λ κs a. Good a.0)
-    pub list : Asks list-fn.ended (list-fn.clauses 𝓛 mem run) (λ κs a. Good a.0)
-    pub records : Asks records-fn.ended (records-fn.clauses 𝓛 mem run) (λ κs a. Good a.0)
-    pub ask : Asks ask-fn.ended (ask-fn.clauses 𝓛 mem run) (λ κs a. Carded a.0)
-    pub depth : Asks depth-fn.ended (depth-fn.clauses 𝓛 mem run) (λ κs a. Carded a.0)
-    pub step_count : Asks count-fn.ended (count-fn.clauses 𝓛 mem run) (λ κs a. Carded a.0)
-    pub trace : Asks trace-fn.ended (trace-fn.clauses 𝓛 mem run) (λ κs a. Good a.0)
-    pub bench : Asks bench-fn.ended (bench-fn.clauses 𝓛 mem run) (λ κs a. Good a.0)
-    pub begin : AsksNone begin-fn.ended (begin-fn.clauses 𝓛 mem run)
-    pub next : Asks next-fn.ended (next-fn.clauses 𝓛 mem run) (λ κs a. Standing a.0)
-    pub is_over_lem : AsksNone over-fn.ended (over-fn.clauses 𝓛 mem run)
-    pub host_load : AsksNone host-load-fn.ended (host-load-fn.clauses 𝓛 mem run)
-    pub host_rest : AsksNone host-rest-fn.ended (host-rest-fn.clauses 𝓛 mem run)
-    pub host_vector : AsksNone host-vector-fn.ended (host-vector-fn.clauses 𝓛 mem run)
-    pub host_steps : AsksNone host-steps-fn.ended (host-steps-fn.clauses 𝓛 mem run)
-    pub host_history_lem : AsksNone host-history-fn.ended (host-history-fn.clauses 𝓛 mem run)
-    pub host_vectors_lem : AsksNone host-vectors-fn.ended (host-vectors-fn.clauses 𝓛 mem run)
-    pub host_vectors_steps : AsksNone host-vectors-steps-fn.ended (host-vectors-steps-fn.clauses 𝓛 mem run)
+    pub vector : Asks vector_fn.ended (vector_fn.clauses 𝓛 mem run) (λ κs a. Good a.0)
+    pub steps : Asks steps_fn.ended (steps_fn.clauses 𝓛 mem run) (λ κs a. Good a.0)
+    pub vector_by_lem : Asks by_fn.ended (by_fn.clauses 𝓛 mem run) (λ κs a. Good a.1.0)
+    pub operate : Asks operate_fn.ended (operate_fn.clauses 𝓛 mem run) (λ κs a. Good a.1.0)
+    pub history : Asks history_fn.ended (history_fn.clauses 𝓛 mem run) (λ κs a. Good a.0)
+    pub list : Asks list_fn.ended (list_fn.clauses 𝓛 mem run) (λ κs a. Good a.0)
+    pub records : Asks records_fn.ended (records_fn.clauses 𝓛 mem run) (λ κs a. Good a.0)
+    pub ask : Asks ask_fn.ended (ask_fn.clauses 𝓛 mem run) (λ κs a. Carded a.0)
+    pub depth : Asks depth_fn.ended (depth_fn.clauses 𝓛 mem run) (λ κs a. Carded a.0)
+    pub step_count : Asks count_fn.ended (count_fn.clauses 𝓛 mem run) (λ κs a. Carded a.0)
+    pub trace : Asks trace_fn.ended (trace_fn.clauses 𝓛 mem run) (λ κs a. Good a.0)
+    pub bench : Asks bench_fn.ended (bench_fn.clauses 𝓛 mem run) (λ κs a. Good a.0)
+    pub begin : AsksNone begin_fn.ended (begin_fn.clauses 𝓛 mem run)
+    pub next : Asks next_fn.ended (next_fn.clauses 𝓛 mem run) (λ κs a. Standing a.0)
+    pub is_over_lem : AsksNone over_fn.ended (over_fn.clauses 𝓛 mem run)
+    pub host_load : AsksNone host_load_fn.ended (host_load_fn.clauses 𝓛 mem run)
+    pub host_rest : AsksNone host_rest_fn.ended (host_rest_fn.clauses 𝓛 mem run)
+    pub host_vector : AsksNone host_vector_fn.ended (host_vector_fn.clauses 𝓛 mem run)
+    pub host_steps : AsksNone host_steps_fn.ended (host_steps_fn.clauses 𝓛 mem run)
+    pub host_history_lem : AsksNone host_history_fn.ended (host_history_fn.clauses 𝓛 mem run)
+    pub host_vectors_lem : AsksNone host_vectors_fn.ended (host_vectors_fn.clauses 𝓛 mem run)
+    pub host_vectors_steps : AsksNone host_vectors_steps_fn.ended (host_vectors_steps_fn.clauses 𝓛 mem run)
 
   pub asks_nothing : AsksNothing
   asks_nothing = record {

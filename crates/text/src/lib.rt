@@ -2,7 +2,7 @@
 #![tactic(auto)]
 
 ghost use Rattle.std.specs.Prelude.{◌≡◌, [], ◌∷◌, ◌+◌, ◌<◌, ◌≤◌, length};
-ghost use Rattle.text.specs.Text.{digit as digitByte, decimal, numbered, named, same_text};
+ghost use Rattle.text.specs.Text.{digit as digit_byte, decimal, numbered, named, same_text};
 ghost use Rattle.text.specs.Inner.Put.{Put};
 
 // One byte.
@@ -30,7 +30,7 @@ pub fn put_word(out: &mut [u8; 20480], at: usize, word: &[u8]) -> usize
 
 fn digit(d: usize) -> u8
     requires { d < 10 }
-    ensures { result ≡ digitByte d }
+    ensures { result ≡ digit_byte d }
 {
     48 + d as u8
 }
