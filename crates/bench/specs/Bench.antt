@@ -54,7 +54,7 @@ bench_order s new order k room (Ok tt) =
 
 abbrev pub bench_vector : Session → List ℕ → List ℕ → ℕ → List ℕ → Verdict → Benched
 bench_vector s v order k room (Err why) = bench_refused s room why
-bench_vector s v order k room (Ok tt) = bench_order s (given s.kinds v) order k room (order_judged (card_of s) order)
+bench_vector s v order k room (Ok _) = bench_order s (given s.kinds v) order k room (order_judged (card_of s) order)
 
 -- "Bench run: 12, 10, 11, 15, 16, 17, 19, 18."
 unfoldable pub bench_of : Session → List ℕ → List ℕ → ℕ → List ℕ → Benched

@@ -5,7 +5,7 @@ use Rattle.rule.specs.Answers.{NetAnswer}
 use Rattle.rule.specs.Numbers.{answer_number, answer_count, net_number, net_level, net_word}
 use Rattle.card_records.specs.Written.{Bytes}
 use Rattle.card.specs.declared.Session.{Session}
-use Rattle.card.specs.declared.Loaded.{Loaded}
+use Rattle.card.specs.Loaded.{Loaded}
 use Rattle.card.specs.Load.{load_of}
 use Rattle.card.specs.Asked.{net_asked}
 use Rattle.session.specs.declared.Moved.{Moved}

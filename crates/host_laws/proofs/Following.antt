@@ -17,7 +17,7 @@ use Rattle.rule.specs.Numbers.{answer_number, answer_count}
 use Rattle.inputs.specs.Inputs.{given}
 use Rattle.card_records.specs.Written.{Bytes}
 use Rattle.card.specs.declared.Session.{Session}
-use Rattle.card.specs.declared.Loaded.{Loaded}
+use Rattle.card.specs.Loaded.{Loaded}
 use Rattle.card.specs.Session.{none}
 use Rattle.card.specs.Load.{load_of}
 use Rattle.card.proofs.Kept.{nets_are, card_fits, card_steps}

@@ -17,7 +17,7 @@ use Rattle.inputs.specs.Allowed.{Vector}
 use Rattle.card_records.specs.Bytes.{u16_at}
 use Rattle.card_records.specs.Written.{Bytes, card_bytes}
 use Rattle.card.specs.declared.Session.{Session}
-use Rattle.card.specs.declared.Loaded.{Loaded}
+use Rattle.card.specs.Loaded.{Loaded}
 use Rattle.card.specs.Session.{none, session_of}
 use Rattle.card.specs.Load.{load_of, taken}
 use Rattle.card.specs.Allowed.{Accepted}

@@ -24,7 +24,7 @@ refused_move s why = record { answer = Err why; session = s }
 -- done with a count, or refused for its vector
 abbrev pub moving : Session → Verdict → ℕ → Session → Moved
 moving s (Err why) count next = refused_move s why
-moving s (Ok tt) count next = record { answer = Ok count; session = next }
+moving s (Ok _) count next = record { answer = Ok count; session = next }
 
 -- "The value at 63 is the next before value."
 unfoldable pub ends : Session → ℕ → Bool
