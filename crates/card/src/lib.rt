@@ -101,9 +101,11 @@ fn conclude<'a>(
     let wired = card_wiring::wire(counts, places, n)?;
     let order = wired.order;
     let sets = wired.sets;
+    // "not yet rested"; "All 256 fields start cleared when a card is loaded"
+    let (rested, words) = (false, [0u64; 256]);
     *session = Session {
         loaded: true,
-        rested: false,
+        rested,
         nets: n,
         inputs,
         gates: wired.gates,
@@ -115,7 +117,7 @@ fn conclude<'a>(
         feeds: inputs::input_nets(kinds),
         sets,
         before: [false; 256],
-        words: [0; 256],
+        words,
     };
     Ok(count)
 }
