@@ -1,8 +1,9 @@
--- A gate's word of what its pins come to. Assumes nothing.
+-- A gate's value of what its pins come to, at every time. Assumes nothing.
 use mathlib.Core.Path.{ap, ◌∙◌}
-use Rattle.word.specs.Word.{bit, differ}
-use Rattle.word.proofs.Bits.{bit-xor}
-use Rattle.gate.proofs.gate_word.Goals as goal
+use Rattle.word.specs.Word.{differ}
+use Rattle.gate.proofs.gate_value.Goals as goal
 
 pub returns : goal.returns
-returns c t l = let a = c.args in bit-xor a.all c.spread.result t ∙ ap (differ (bit a.all t)) (c.spread.ensures t l)
+returns g c t l =
+    let a = c.args in
+    g.met.V.Lane.xor_at a.all _ _ c.bitxor.ensures t ∙ ap (differ (g.V.Lane.at a.all t)) (c.spread.ensures t l)

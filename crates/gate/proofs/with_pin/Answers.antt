@@ -1,20 +1,22 @@
 -- One pin more, at every time: `pin_odd`, `pin_some` and `pin_every`. Assumes nothing.
 use mathlib.Core.Path.{sym, ◌∙◌}
 use native.Mathlib.Omega.{arith}
-use Rattle.word.specs.Word.{bit}
-use Rattle.word.proofs.Bits.{bit-and, bit-or, bit-xor}
 use Rattle.gate.proofs.Pins.{pin_odd, pin_some, pin_every}
-use Rattle.gate.proofs.with_word.Goals as goal
+use Rattle.gate.proofs.with_pin.Goals as goal
 
 pub returns-then-ty-gt5 : goal.returns-then-ty-gt5
-returns-then-ty-gt5 c t = let a = c.args in bit-xor a.known a.pin t ∙ pin_odd a.ty (bit a.known t) (bit a.pin t) (omega arith)
+returns-then-ty-gt5 g c t =
+    let a = c.args in
+    g.met.V.Lane.xor_at a.known a.pin _ c.bitxor.ensures t ∙ pin_odd a.ty (g.V.Lane.at a.known t) (g.V.Lane.at a.pin t) (omega arith)
 
 pub returns-then-rule : goal.returns-then-rule
-returns-then-rule c t =
+returns-then-rule g c t =
     let a = c.args in
-    bit-or a.known a.pin t ∙ pin_some a.ty (bit a.known t) (bit a.pin t) (omega arith) (sym c.requires ∙ c.if-rule.true)
+    g.met.V.Lane.or_at a.known a.pin _ c.bitor.ensures t
+    ∙ pin_some a.ty (g.V.Lane.at a.known t) (g.V.Lane.at a.pin t) (omega arith) (sym c.requires ∙ c.if-rule.true)
 
 pub returns : goal.returns
-returns c t =
+returns g c t =
     let a = c.args in
-    bit-and a.known a.pin t ∙ pin_every a.ty (bit a.known t) (bit a.pin t) (omega arith) (sym c.requires ∙ c.if-rule.false)
+    g.met.V.Lane.and_at a.known a.pin _ c.bitand.ensures t
+    ∙ pin_every a.ty (g.V.Lane.at a.known t) (g.V.Lane.at a.pin t) (omega arith) (sym c.requires ∙ c.if-rule.false)
