@@ -8,8 +8,7 @@ ghost use Rattle.word.specs.Word.{bit, word_of};
 ghost use Rattle.inputs.specs.Inputs.{byte_fits, input_nets, vector_judged};
 ghost use Rattle.inputs.specs.Inner.Starts.{constant_at, tops_of, byte_word, nets_put};
 
-use card_wiring::Verdict;
-use rule::Refusal;
+use rule::{Refusal, Verdict};
 
 // A vector byte is 0 or 1: it is below this.
 const BYTE_LIMIT: u8 = 2;
@@ -50,15 +49,15 @@ pub fn judge(ready: bool, inputs: usize, v: &[u8]) -> Verdict
     ensures { result ≡ vector_judged ready inputs v.now }
 {
     if !ready {
-        return Verdict::Refused(Refusal::NotReady);
+        return Err(Refusal::NotReady);
     }
     if v.len() != inputs {
-        return Verdict::Refused(Refusal::VectorLength);
+        return Err(Refusal::VectorLength);
     }
     if !bytes_fit(v) {
-        return Verdict::Refused(Refusal::VectorByte);
+        return Err(Refusal::VectorByte);
     }
-    Verdict::Passed
+    Ok(())
 }
 
 // The values that constants have, net by net.
