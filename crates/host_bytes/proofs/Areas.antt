@@ -8,7 +8,8 @@ use Rattle.lists.specs.Places.{clear, area}
 use Rattle.host_bytes.specs.Layout.{older_at, last_at, card_at, session_length}
 use Rattle.operations.specs.declared.Engine.{Engine}
 use Rattle.operations.specs.declared.Engine.TheVariants.{Fields, Steps}
-use Rattle.host_bytes.specs.Kept.{last_room, byte_of, moved_state, mark_of}
+use Rattle.host_bytes.specs.Inner.States.{byte_of, moved_state}
+use Rattle.host_bytes.specs.Kept.{last_room, mark_of}
 use Rattle.host_bytes.proofs.Bytes.{room_at, zero_byte}
 use Rattle.lists.proofs.Places.{clear_past, clear_step, length_area, area_in, area_out, put_start, put_next}
 
