@@ -14,7 +14,7 @@ use Rattle.rule.specs.Answers.{Verdict}
 use Rattle.inputs.specs.Inputs.{given, vector_judged}
 use Rattle.card.specs.declared.Session.{Session}
 use Rattle.card.specs.Session.{card_of}
-use Rattle.session.specs.declared.Moved.{Moved}
+use Rattle.session.specs.Moved.{Moved}
 use Rattle.step_orders.specs.Orders.{steps_of, order_judged}
 use Rattle.step_run.specs.Vector.{ran_along, ran_session}
 
