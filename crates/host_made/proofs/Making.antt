@@ -1,5 +1,5 @@
 -- Which way each function that makes a session again goes. Assumes nothing.
-use mathlib.Core.Path.{◌≡◌, sym, subst}
+use mathlib.Core.Path.{◌≡◌, refl, sym, subst}
 use mathlib.Core.Bool.{Bool, true, false, cond}
 use mathlib.Core.List.{List}
 use Prim.Native.Nat.{ℕ, ◌+◌, ◌<◌, ◌≤◌}
@@ -9,7 +9,9 @@ use borrow.Author.Tests.{ne_eqb, lt-ltb, le-ltb}
 use Rattle.lists.specs.Places.{part, clear}
 use Rattle.rule.specs.declared.Refusal.{Refusal}
 use Rattle.rule.specs.Answers.{Answer}
-use Rattle.std.specs.Prelude.{Option, Ok, Err}
+use Rattle.std.specs.Prelude.{Option, None, Some, Ok, Err}
+use Rattle.std.specs.Bool.{then_some}
+use Rattle.std.specs.Result.{result_ok}
 use Rattle.std.specs.Option.{ForSome}
 use Rattle.std.proofs.lemmas.Option.{none-some, same_Some}
 use Rattle.card_records.specs.Bytes.{u16_at}
@@ -31,6 +33,22 @@ use Rattle.host_bytes.specs.Layout.{older_at, last_at, card_at, longest_card, ca
 use Rattle.host_bytes.specs.Kept.{mark_of}
 use Rattle.host_bytes.proofs.Bytes.{part_bytes}
 use Rattle.host_made.specs.Made.{broken, when_done, held, made_by, fitting, made_plain, made_rested, made_moved, made_card, made_loaded, made_again}
+
+-- What is made of an operation's answer
+
+-- `ok()` of an answer is a value where the operation was done
+pub ok_refused : (a : Answer) → result_ok a ≡ None → (why : Refusal) × (a ≡ Err why)
+ok_refused (Err why) e = (why, refl)
+ok_refused (Ok count) e = cc
+
+pub ok_done : (a : Answer) (count : ℕ) → result_ok a ≡ Some count → a ≡ Ok count
+ok_done (Err why) count e = cc
+ok_done (Ok n) count e = cc
+
+-- a session where a test passes
+pub if_passed : (passes : Bool) (s : Session) → then_some passes s ≡ cond passes (held s) broken
+if_passed true s = refl
+if_passed false s = refl
 
 pub by_refused : (m : Moved) (why : Refusal) → m.answer ≡ Err why → broken ≡ made_by m
 unfolding made_by
@@ -71,6 +89,10 @@ module _ (b : List ℕ) (s : Session) where
         → made_by (vector_by engine r.session (part b last_at s.inputs)) ≡ made_moved engine b s
     unfolding made_moved
     moved_is e r q count w = rw (e, ← q, w)
+
+  pub card_0 : get_or b 0 0 ≡ 0 → broken ≡ made_card b s
+  unfolding made_card
+  card_0 e = rw e
 
   pub card_1 : get_or b 0 0 ≡ 1 → made_plain b s ≡ made_card b s
   unfolding made_card

@@ -1,5 +1,5 @@
 -- Inner: cited by contracts between functions alone, and by laws. The states that byte 0 tells, and the bytes that tell them. That of a card which a vector
--- moved is told by the engine's mark: `marked` (host_bytes/proofs/Areas.antt). Assumes nothing.
+-- moved is told by the engine's mark: `marked` (host_bytes/proofs/States.antt). Assumes nothing.
 use Rattle.std.specs.Prelude.{cond, ℕ, eqb, Result, Ok, Err}
 use Rattle.operations.specs.declared.Engine.{Engine}
 use Rattle.operations.specs.declared.Engine.TheVariants.{Fields, Steps}
