@@ -13,10 +13,9 @@ use Rattle.word.proofs.Sets.{count_cong, count_ends}
 use Rattle.rule.specs.Net.{Net, net_at, is_input, Pinned}
 use Rattle.rule.specs.declared.Refusal.{Refusal}
 use Rattle.rule.specs.declared.Refusal.TheVariants.{NoInput}
-use Rattle.rule.specs.declared.Answer.TheVariants.{Done}
+use Rattle.std.specs.Prelude.{Ok, Err}
 use Rattle.rule.proofs.Nets.{past_input}
-use Rattle.card_wiring.specs.declared.Verdict.{Verdict}
-use Rattle.card_wiring.specs.declared.Verdict.TheVariants.{Refused as Faulty, Passed}
+use Rattle.rule.specs.Answers.{Verdict}
 use Rattle.card_wiring.specs.declared.Wired.{Wired}
 use Rattle.card_wiring.specs.Layout.{kinds_of, types_of, counts_of, places_of}
 use Rattle.card_wiring.specs.Inner.Wires.{Fits, Wires}
@@ -25,7 +24,7 @@ use Rattle.card_wiring.specs.Inner.Wired.{arrays_wired}
 use Rattle.card_wiring.proofs.Judged.{arrays_judged_lem as wired-judged, wired_passed}
 use Rattle.card_wiring.proofs.Layouts.{kind_input, wires_laid, kind_at, kind_past}
 use Rattle.inputs.specs.Inputs.{input_nets}
-use Rattle.card_records.specs.declared.Outcome.TheVariants.{Refused, Read}
+use Rattle.card_records.specs.declared.Outcome.TheVariants.{Err, Read}
 use Rattle.card_records.specs.declared.Parsed.{Parsed}
 use Rattle.card_records.specs.Written.{Bytes}
 use Rattle.card_records.specs.Scan.{Meaning, Stops, Means, meaning}
@@ -38,7 +37,7 @@ use Rattle.card.specs.Inner.Arrays.{arrays_session, arrays_concluded, arrays_jud
 
 -- What reading came to
 
-pub stopped_by : (m : Meaning) (r : Refusal) → (parsed_of m).outcome ≡ Refused r → m ≡ Stops r
+pub stopped_by : (m : Meaning) (r : Refusal) → (parsed_of m).outcome ≡ Err r → m ≡ Stops r
 stopped_by (Stops q) r e = let h : q ≡ r = cc in ap Stops h
 stopped_by (Means c) r e = let z : ◌≡◌ {A = ℕ} 0 1 = cc in absurd (omega arith)
 
@@ -92,15 +91,15 @@ module _ (old : Session) (n : ℕ) (kinds types counts places : List ℕ) where
     abbrev fresh : List ℕ → Wired → Session
     fresh = arrays_session n inputs kinds types counts places
 
-    pub conclude_faulty : (r : Refusal) → w.verdict ≡ Faulty r → refusal old r ≡ arrays_concluded old handed inputs n kinds types counts places
+    pub conclude_faulty : (r : Refusal) → w.verdict ≡ Err r → refusal old r ≡ arrays_concluded old handed inputs n kinds types counts places
     unfolding arrays_concluded
     conclude_faulty r e = ap (concluded old (fresh (input_nets kinds 256) (arrays_wired counts places n)) handed) (sym e ∙ ap (λ x. x.verdict) wired)
 
-    pub conclude_passed : w.verdict ≡ Passed → (feeds : List ℕ) → feeds ≡ input_nets kinds 256
-        → record { answer = Done handed; session = fresh feeds w } ≡ arrays_concluded old handed inputs n kinds types counts places
+    pub conclude_passed : w.verdict ≡ (Ok tt) → (feeds : List ℕ) → feeds ≡ input_nets kinds 256
+        → record { answer = Ok handed; session = fresh feeds w } ≡ arrays_concluded old handed inputs n kinds types counts places
     unfolding arrays_concluded
     conclude_passed e feeds fed =
-        ap₂ (λ f x. concluded old (fresh f x) handed Passed) fed wired
+        ap₂ (λ f x. concluded old (fresh f x) handed (Ok tt)) fed wired
         ∙ ap (concluded old (fresh (input_nets kinds 256) (arrays_wired counts places n)) handed) (sym e ∙ ap (λ x. x.verdict) wired)
 
   module _ (inputs : ℕ) (counted : inputs ≡ count (λ g. eqb (get_or kinds g 0) 1) n) where
@@ -116,14 +115,14 @@ module _ (old : Session) (n : ℕ) (kinds types counts places : List ℕ) where
 -- where a card is laid out in them it is the judgement of the card
 
 module _ (old : Session) (c : List Net) where
-  fresh_card : (wired_of c).verdict ≡ Passed → arrays_session (length c) (inputs_of c) (kinds_of c) (types_of c) (counts_of c) (places_of c) (input_nets (kinds_of c) 256) (wired_of c) ≡ session_of c
+  fresh_card : (wired_of c).verdict ≡ (Ok tt) → arrays_session (length c) (inputs_of c) (kinds_of c) (types_of c) (counts_of c) (places_of c) (input_nets (kinds_of c) 256) (wired_of c) ≡ session_of c
   unfolding session_of
   fresh_card e = ap (arrays_session (length c) (inputs_of c) (kinds_of c) (types_of c) (counts_of c) (places_of c) (input_nets (kinds_of c) 256)) (wired_passed c e)
 
   concluded_card : (handed : ℕ) (v : Verdict) → (wired_of c).verdict ≡ v
       → concluded old (arrays_session (length c) (inputs_of c) (kinds_of c) (types_of c) (counts_of c) (places_of c) (input_nets (kinds_of c) 256) (wired_of c)) handed v ≡ concluded old (session_of c) handed v
-  concluded_card handed (Faulty r) e = refl
-  concluded_card handed Passed e = ap (λ x. concluded old x handed Passed) (fresh_card e)
+  concluded_card handed (Err r) e = refl
+  concluded_card handed (Ok tt) e = ap (λ x. concluded old x handed (Ok tt)) (fresh_card e)
 
   judged_card : Fits c → Pinned c → arrays_judged old (length c) (kinds_of c) (types_of c) (counts_of c) (places_of c) ≡ judged old c
   unfolding arrays_judged arrays_concluded judged
@@ -138,7 +137,7 @@ judge_laid old {c} laid =
 -- Load, from what reading came to
 
 module _ (old : Session) (s : List ℕ) (p : Parsed) (parsed : p ≡ parsed_of (meaning s)) where
-  pub load_stopped : (r : Refusal) → p.outcome ≡ Refused r → refusal old r ≡ load_of old s
+  pub load_stopped : (r : Refusal) → p.outcome ≡ Err r → refusal old r ≡ load_of old s
   unfolding load_of
   load_stopped r e = sym (ap (load_meant old) (stopped_by (meaning s) r (ap (λ x. x.outcome) (sym parsed) ∙ e)))
 

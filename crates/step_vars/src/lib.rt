@@ -59,7 +59,7 @@ fn gather<'a>(
     let mut known = read_at(vars, sets, places[g * 8], t, loose);
     let mut j: usize = 1;
     while j < count {
-        known = gate::with_bit(
+        known = gate::with_pin(
             ty,
             rule,
             known,
@@ -92,7 +92,7 @@ pub fn step<'a>(
     let ty = card_wiring::wide(types[g]);
     let rule = gate::rule_of(ty);
     let all = gather(vars, counts, places, sets, n, ty, rule, g, t);
-    let b = gate::gate_bit(rule, all);
+    let b = gate::gate_value(rule, all);
     vars[g] = word::put(vars[g], t, b);
 }
 

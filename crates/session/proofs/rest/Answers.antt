@@ -6,15 +6,15 @@ use Rattle.session.proofs.rest.Goals as goal
 
 pub settle-next-requires : goal.settle-next-requires
 settle-next-requires c =
-    let fits = judged_vector c.args.s.loaded c.args.s.inputs c.args.v.now (sym c.judge-verdict.ensures ∙ c.in-Passed.is) in
+    let fits = judged_vector c.args.s.loaded c.args.s.inputs c.args.v.now (sym c.judge-verdict.ensures ∙ c.in-Ok.is) in
     record { good = c.requires; loaded_value = (fits.0, fits.1.size) }
 
-pub returns-in-Refused : goal.returns-in-Refused
-returns-in-Refused c =
+pub returns-in-Err : goal.returns-in-Err
+returns-in-Err c =
     let a = c.args in
-    c.refused.ensures ∙ rest_refused_by a.s a.v.now _ c.judge-verdict.ensures _ c.in-Refused.is
+    c.refused.ensures ∙ rest_refused_by a.s a.v.now _ c.judge-verdict.ensures _ c.in-Err.is
 
-pub returns-in-Passed : goal.returns-in-Passed
-returns-in-Passed c =
+pub returns-in-Ok : goal.returns-in-Ok
+returns-in-Ok c =
     let a = c.args in
-    rest_done a.s a.v.now _ c.judge-verdict.ensures _ c.settle-next.ensures c.in-Passed.is
+    rest_done a.s a.v.now _ c.judge-verdict.ensures _ c.settle-next.ensures c.in-Ok.is
