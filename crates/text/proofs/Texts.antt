@@ -1,6 +1,6 @@
 -- Texts put one after another are one text put; a number's digits and how many they are; two texts compared. Assumes nothing.
 use mathlib.Core.Path.{◌≡◌, refl, sym, ap, ap₂, ◌∙◌, subst}
-use mathlib.Core.Bool.{Bool, true, false, cond}
+use mathlib.Core.Bool.{Bool, true, false, cond, ◌&&◌}
 use mathlib.Core.List.{List, [], ◌∷◌, ◌++◌, append_assoc}
 use Prim.Native.Nat.{ℕ, zero, suc, ◌+◌, ◌/◌, ◌%◌, ◌^◌, ◌≤◌, ◌<◌}
 use native.Mathlib.Omega.{arith}
@@ -8,10 +8,11 @@ use native.Mathlib.Decide.{dec_lt}
 use native.Mathlib.Nat.{pow-suc}
 use native.Mathlib.Numerals.{add-one}
 use lib.Dec.{eqb, ltb}
-use lib.ListN.{length, get_or, take, drop, set, length-append, drop_of_length-le}
-use lib.Seq.{sets, sets-eq, take-suc, drop-cons, drop-drop}
+use lib.Pointwise.{pointwise}
+use lib.ListN.{length, get_or, take, drop, set, length-append}
+use lib.Seq.{sets, sets-eq, drop-cons, drop-drop}
 use borrow.Rule.Slice.PartMut.{put_mid}
-use borrow.Author.Tests.{eq-eqb, ne_eqb, lt-ltb, le-ltb}
+use borrow.Author.Tests.{lt-ltb, le-ltb}
 use Rattle.text.specs.Text.{digit, digits_in, decimal, same_text}
 use Rattle.text.specs.declared.Page.{Page}
 use Rattle.text.specs.Inner.Put.{Put, Puts}
@@ -98,33 +99,20 @@ decimal_short (suc k) n l = go (dec_lt n 10) (decimal_short k (n / 10) (omega (a
     go (yes p) h = rw (decimal_low n p) (omega arith)
     go (no p) h = omega (arith, length_more n (omega arith))
 
--- Two texts, compared from a place on
+-- Two texts, from a place on, and compared
 
 -- one byte more to look at
 pub drop_next : (t : List ℕ) (i : ℕ) → i < length t → drop i t ≡ get_or t i 0 ∷ drop (i + 1) t
 drop_next t i l = rw (add-one i) (drop-cons t i 0 l)
 
-pub same_lengths : (a b : List ℕ) → (length a ≡ length b → ⊥) → same_text a b ≡ false
+-- what std's equality of slices answers
+pub same_is : (a b : List ℕ) → pointwise eqb a b ≡ same_text a b
 unfolding same_text
-same_lengths [] [] h = absurd (h refl)
-same_lengths [] (y ∷ ys) h = refl
-same_lengths (x ∷ xs) [] h = refl
-same_lengths (x ∷ xs) (y ∷ ys) h = go (eqb x y) (same_lengths xs ys (λ e. h (ap suc e)))
+same_is [] [] = refl
+same_is [] (y ∷ ys) = refl
+same_is (x ∷ xs) [] = refl
+same_is (x ∷ xs) (y ∷ ys) = go (eqb x y) (same_is xs ys)
   where
-    go : (t : Bool) → same_text xs ys ≡ false → cond t (same_text xs ys) false ≡ false
+    go : (t : Bool) → pointwise eqb xs ys ≡ same_text xs ys → (t && pointwise eqb xs ys) ≡ cond t (same_text xs ys) false
     go true e = e
     go false e = refl
-
-module _ (a b : List ℕ) (i : ℕ) where
-  pub same_end : length a ≤ i → length b ≤ i → same_text (drop i a) (drop i b) ≡ true
-  unfolding same_text
-  same_end l m = rw (drop_of_length-le a l, drop_of_length-le b m)
-
-  module _ (l : i < length a) (m : i < length b) where
-    pub same_stop : (get_or a i 0 ≡ get_or b i 0 → ⊥) → same_text (drop i a) (drop i b) ≡ false
-    unfolding same_text
-    same_stop h = rw (drop_next a i l, drop_next b i m, ne_eqb (get_or a i 0) (get_or b i 0) h)
-
-    pub same_on : get_or a i 0 ≡ get_or b i 0 → same_text (drop i a) (drop i b) ≡ same_text (drop (i + 1) a) (drop (i + 1) b)
-    unfolding same_text
-    same_on h = rw (drop_next a i l, drop_next b i m, eq-eqb (get_or a i 0) (get_or b i 0) h)
