@@ -6,6 +6,7 @@ use crate::Command;
 use drill_words::{is_hex, is_order, number_of, room_of, word, word_count};
 
 // A line of a name and one word more.
+#[tactic(auto, using(text::proofs::Texts::same_is), unfolding(crate::specs::Lines::with_one))]
 fn with_one(name: &[u8], a: &[u8]) -> Option<Command>
     ensures { result ≡ with_one name.now a.now }
 {
@@ -31,6 +32,7 @@ fn with_one(name: &[u8], a: &[u8]) -> Option<Command>
 }
 
 // A line of a name and two words more.
+#[tactic(auto, using(text::proofs::Texts::same_is), unfolding(crate::specs::Lines::with_two))]
 fn with_two(name: &[u8], a: &[u8], b: &[u8]) -> Option<Command>
     ensures { result ≡ with_two name.now a.now b.now }
 {
@@ -41,6 +43,7 @@ fn with_two(name: &[u8], a: &[u8], b: &[u8]) -> Option<Command>
 }
 
 // A line of a name and three words more.
+#[tactic(auto, using(text::proofs::Texts::same_is), unfolding(crate::specs::Lines::with_three))]
 fn with_three(name: &[u8], a: &[u8], b: &[u8], c: &[u8]) -> Option<Command>
     ensures { result ≡ with_three name.now a.now b.now c.now }
 {
@@ -54,6 +57,7 @@ fn with_three(name: &[u8], a: &[u8], b: &[u8], c: &[u8]) -> Option<Command>
 }
 
 // A line of a name and four words more.
+#[tactic(auto, using(text::proofs::Texts::same_is), unfolding(crate::specs::Lines::with_four))]
 fn with_four(name: &[u8], a: &[u8], b: &[u8], c: &[u8], d: &[u8]) -> Option<Command>
     ensures { result ≡ with_four name.now a.now b.now c.now d.now }
 {
