@@ -46,9 +46,9 @@ pub fn run_order<'a>(
         ≡ ran types.now counts.now places.now sets.now vars.old
         (ordered_steps nets.now times.now order.now k) }
 {
-    let mut i: usize = 0;
-    while i < k {
-        let e = card_wiring::wide16(order[i]);
+    let mut done: usize = 0;
+    for &entry in &order[..k] {
+        let e = usize::from(entry);
         step_vars::step(
             vars,
             types,
@@ -56,12 +56,12 @@ pub fn run_order<'a>(
             places,
             sets,
             n,
-            card_wiring::wide16(nets[e]),
-            step_vars::narrow(times[e]),
+            usize::from(nets[e]),
+            u32::from(times[e]),
         );
-        i += 1;
+        done += 1;
     }
-    i
+    done
 }
 
 // The steps along the list, counted from 0.
@@ -85,7 +85,7 @@ pub fn run_list<'a>(
         (steps_named nets.now times.now total) }
 {
     let mut done: usize = 0;
-    while done < total {
+    for e in 0..total {
         step_vars::step(
             vars,
             types,
@@ -93,8 +93,8 @@ pub fn run_list<'a>(
             places,
             sets,
             n,
-            card_wiring::wide16(nets[done]),
-            step_vars::narrow(times[done]),
+            usize::from(nets[e]),
+            u32::from(times[e]),
         );
         done += 1;
     }
