@@ -49,16 +49,9 @@ pub fn run_order<'a>(
     let mut done: usize = 0;
     for &entry in &order[..k] {
         let e = usize::from(entry);
-        step_vars::step(
-            vars,
-            types,
-            counts,
-            places,
-            sets,
-            n,
-            usize::from(nets[e]),
-            u32::from(times[e]),
-        );
+        let net = usize::from(nets[e]);
+        let time = u32::from(times[e]);
+        step_vars::step(vars, types, counts, places, sets, n, net, time);
         done += 1;
     }
     done
@@ -86,16 +79,9 @@ pub fn run_list<'a>(
 {
     let mut done: usize = 0;
     for e in 0..total {
-        step_vars::step(
-            vars,
-            types,
-            counts,
-            places,
-            sets,
-            n,
-            usize::from(nets[e]),
-            u32::from(times[e]),
-        );
+        let net = usize::from(nets[e]);
+        let time = u32::from(times[e]);
+        step_vars::step(vars, types, counts, places, sets, n, net, time);
         done += 1;
     }
     done
