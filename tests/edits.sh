@@ -29,7 +29,7 @@ seeded() {
 edits=crates/word/must-fail/code-1.edit log=target/must-fail/word/code-1.log code="crates/word/src/lib.rt crates/word/src/pcset.rt"
 seeded "$edits" 's/^at: `returns` of `least`/at: `returns-2` of `least`/' 'word/least_is_largest: it is not refused at `returns-2` of `least`'
 seeded "$edits" '/^at: `returns` of `least`/d' 'word/least_is_largest: it is not refused at a fact that its file names'
-seeded "$edits" 's/^old:         u64::trailing_zeros/old:         u64::count_ones/' 'it is not in a function of its own, but in size'
+seeded "$edits" 's/^old:         self.word.trailing_zeros/old:         self.word.count_ones/' 'it is not in a function of its own, but in size'
 seeded "$edits" 's/^at: `returns` of `least`/at: `returns` of `up`/' 'word/least_is_largest: it is in least, and names `returns` of `up`'
 seeded "$log" '/without_least\/Answers/d' 'word/least_left_in: it is not refused at `returns` of `without_least`'
 seeded "$log" '1a ./proofs/pcset/PcSet/least/Answers.antt:1:1: error: `returns`: record `Lts.After` has no field `args`' 'word/least_is_largest: ./proofs/pcset'

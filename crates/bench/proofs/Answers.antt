@@ -13,13 +13,13 @@ use Rattle.rule.specs.Steps.{Step, step_list, no_step}
 use Rattle.rule.specs.declared.Refusal.{Refusal}
 use Rattle.rule.specs.declared.Refusal.TheVariants.{OrderLength, OrderEntry, OrderEarly, TooManyAsked, NoRoom}
 use Rattle.rule.proofs.StepLists.{list_only}
-use Rattle.card_wiring.specs.declared.Verdict.{Verdict}
-use Rattle.card_wiring.specs.declared.Verdict.TheVariants.{Refused as Faulty, Passed}
+use Rattle.rule.specs.Answers.{Verdict}
+use Rattle.std.specs.Prelude.{Ok, Err}
 use Rattle.inputs.specs.Inputs.{given, vector_judged}
 use Rattle.card.specs.declared.Session.{Session}
 use Rattle.card.specs.Session.{card_of}
 use Rattle.card.specs.Held.{HasCard}
-use Rattle.session.specs.declared.Moved.{Moved}
+use Rattle.session.specs.Moved.{Moved}
 use Rattle.session.specs.Moves.{refused_move}
 use Rattle.step_orders.specs.Orders.{entries_fit, order_ready, order_judged}
 use Rattle.step_orders.specs.Inner.Ready.{StepEntry, judged_in}
@@ -37,7 +37,7 @@ pub held_named : {ks : List Step} {nets₀ times₀ nets times : List ℕ} {n : 
 held_named h ln lt few = record { net_is = held_net h ln lt few; time_is = held_time h ln lt few }
 
 -- a verdict that passes
-passed_tests : (a b r : Bool) → cond a (cond b (cond r Passed (Faulty OrderEarly)) (Faulty OrderEntry)) (Faulty OrderLength) ≡ Passed → (a ≡ true) × (b ≡ true)
+passed_tests : (a b r : Bool) → cond a (cond b (cond r (Ok tt) (Err OrderEarly)) (Err OrderEntry)) (Err OrderLength) ≡ (Ok tt) → (a ≡ true) × (b ≡ true)
 passed_tests true true r e = (refl, refl)
 passed_tests true false r e = let z : ◌≡◌ {A = ℕ} 0 1 = cc in absurd (omega arith)
 passed_tests false b r e = let z : ◌≡◌ {A = ℕ} 0 1 = cc in absurd (omega arith)
@@ -63,7 +63,7 @@ module _ (s : Session) (h : HasCard s) where
       pub verdict_is : verdict ≡ order_judged c order
       verdict_is = judged ∙ ap (λ n. judged_in s.counts s.places s.sets nets times n order) (list_total s h held) ∙ judged_is s h nets times order list_named
 
-      pub passed_taken : verdict ≡ Passed → Taken c nets times total order
+      pub passed_taken : verdict ≡ (Ok tt) → Taken c nets times total order
       unfolding order_judged
       passed_taken e =
           let p = passed_tests (eqb (length order) (length (step_list c))) (entries_fit (length (step_list c)) order) (order_ready c order) (sym verdict_is ∙ e) in
@@ -81,7 +81,7 @@ module _ (s : Session) (new : ℕ → Bool) (order : List ℕ) (k : ℕ) (room :
   answer v = bench_order s new order k room v
 
   -- 15, 16, 17
-  pub order_faulty : (why : Refusal) (m : Moved) → verdict ≡ Faulty why → m ≡ refused_move s why → record { moved = m; room = room } ≡ answer (order_judged (card_of s) order)
+  pub order_faulty : (why : Refusal) (m : Moved) → verdict ≡ Err why → m ≡ refused_move s why → record { moved = m; room = room } ≡ answer (order_judged (card_of s) order)
   order_faulty why m e q = ap (λ x. record { moved = x; room = room }) q ∙ ap answer (sym e ∙ judged)
 
   abbrev steps : ℕ
@@ -90,7 +90,7 @@ module _ (s : Session) (new : ℕ → Bool) (order : List ℕ) (k : ℕ) (room :
   abbrev tested : Bool → Bool → Benched
   tested a b = cond a (cond b (bench_done s new order k room) (bench_refused s room NoRoom)) (bench_refused s room TooManyAsked)
 
-  module _ (passed : verdict ≡ Passed) (total : ℕ) (total_is : total ≡ steps) where
+  module _ (passed : verdict ≡ (Ok tt)) (total : ℕ) (total_is : total ≡ steps) where
     by_tests : (a b : Bool) → leb k steps ≡ a → leb steps (length room) ≡ b → tested a b ≡ answer (order_judged (card_of s) order)
     by_tests a b p q = sym (ap (λ x. tested x (leb steps (length room))) p ∙ ap (tested a) q) ∙ ap answer (sym passed ∙ judged)
 
@@ -110,10 +110,10 @@ module _ (s : Session) (new : ℕ → Bool) (order : List ℕ) (k : ℕ) (room :
 
 module _ (s : Session) (v order : List ℕ) (k : ℕ) (room : List ℕ) (x : Verdict) (e : x ≡ vector_judged s.rested s.inputs v) where
   -- 12, 10, 11
-  pub bench_refused_by : (why : Refusal) (m : Moved) → x ≡ Faulty why → m ≡ refused_move s why → record { moved = m; room = room } ≡ bench_of s v order k room
+  pub bench_refused_by : (why : Refusal) (m : Moved) → x ≡ Err why → m ≡ refused_move s why → record { moved = m; room = room } ≡ bench_of s v order k room
   unfolding bench_of
   bench_refused_by why m q p = ap (λ y. record { moved = y; room = room }) p ∙ ap (bench_vector s v order k room) (sym q ∙ e)
 
-  pub bench_run : (r : Benched) → x ≡ Passed → r ≡ bench_order s (given s.kinds v) order k room (order_judged (card_of s) order) → r ≡ bench_of s v order k room
+  pub bench_run : (r : Benched) → x ≡ (Ok tt) → r ≡ bench_order s (given s.kinds v) order k room (order_judged (card_of s) order) → r ≡ bench_of s v order k room
   unfolding bench_of
   bench_run r q p = p ∙ ap (bench_vector s v order k room) (sym q ∙ e)

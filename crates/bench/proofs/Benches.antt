@@ -18,10 +18,9 @@ use Rattle.rule.specs.Rule.{value}
 use Rattle.rule.specs.Steps.{GoodOrder, step_list, step_at}
 use Rattle.rule.specs.declared.Refusal.{Refusal}
 use Rattle.rule.specs.declared.Refusal.TheVariants.{OrderLength, OrderEntry, OrderEarly, TooManyAsked, NoRoom}
-use Rattle.rule.specs.declared.Answer.TheVariants.{Done, Refused}
+use Rattle.std.specs.Prelude.{Ok, Err}
 use Rattle.rule.proofs.Runs.{take_in}
-use Rattle.card_wiring.specs.declared.Verdict.{Verdict}
-use Rattle.card_wiring.specs.declared.Verdict.TheVariants.{Refused as Faulty, Passed}
+use Rattle.rule.specs.Answers.{Verdict}
 use Rattle.inputs.specs.Allowed.{Vector}
 use Rattle.inputs.specs.Inputs.{given, vector_judged}
 use Rattle.inputs.proofs.Verdicts.{Judging, refused, passed, judging, gets_judged, vector_judged_lem}
@@ -86,14 +85,14 @@ module _ (s : Session) (good : Good s) (v order : List ℕ) (k : ℕ) (room : Li
       go x (passed e w) = by_order e w (order_judged c order) (judgement c (holds e).accepted.free (card_fits s (holds e)).pinned order)
 
   -- a refusal leaves the session and the room as they were, and its number applies
-  pub bench_refused_lem : (r : Refusal) → result.moved.answer ≡ Refused r → BenchGets s v order k room r × (result ≡ bench_refused s room r)
+  pub bench_refused_lem : (r : Refusal) → result.moved.answer ≡ Err r → BenchGets s v order k room r × (result ≡ bench_refused s room r)
   bench_refused_lem r e = go result bench_ruled e
     where
-      go : (x : Benched) → Ruling x → x.moved.answer ≡ Refused r → BenchGets s v order k room r × (x ≡ bench_refused s room r)
+      go : (x : Benched) → Ruling x → x.moved.answer ≡ Err r → BenchGets s v order k room r × (x ≡ bench_refused s room r)
       go x (refuses q g) e = let h : q ≡ r = cc in (subst (BenchGets s v order k room) h g, ap (bench_refused s room) h)
       go x (does d) e = absurd (not_refused e)
         where
-          not_refused : (bench_done s new order k room).moved.answer ≡ Refused r → ⊥
+          not_refused : (bench_done s new order k room).moved.answer ≡ Err r → ⊥
           not_refused e = let z : ◌≡◌ {A = ℕ} 0 1 = unfold bench_done in cc in omega arith
 
   -- the tests, from their answers
@@ -102,12 +101,12 @@ module _ (s : Session) (good : Good s) (v order : List ℕ) (k : ℕ) (room : Li
   by_vector x q = ap (bench_vector s v order k room) q
 
   by_order : s.rested ≡ true → Vector s.inputs v → (j : Verdict) → order_judged c order ≡ j → result ≡ bench_order s new order k room j
-  by_order e w j q = by_vector Passed (vector_judged_lem s.rested s.inputs v e w) ∙ ap (bench_order s new order k room) q
+  by_order e w j q = by_vector (Ok tt) (vector_judged_lem s.rested s.inputs v e w) ∙ ap (bench_order s new order k room) q
 
   by_limits : s.rested ≡ true → Vector s.inputs v → GoodOrder c (steps_of c order) → (a b : Bool) → leb k (step_count s) ≡ a → leb (step_count s) (length room) ≡ b
       → result ≡ cond a (cond b (bench_done s new order k room) (bench_refused s room NoRoom)) (bench_refused s room TooManyAsked)
   by_limits e w g a b p q =
-      by_order e w Passed (good_passes c (holds e).accepted.free (card_fits s (holds e)).pinned order g)
+      by_order e w (Ok tt) (good_passes c (holds e).accepted.free (card_fits s (holds e)).pinned order g)
       ∙ ap (λ x. cond x (cond (leb (step_count s) (length room)) (bench_done s new order k room) (bench_refused s room NoRoom)) (bench_refused s room TooManyAsked)) p
       ∙ ap (λ y. cond a (cond y (bench_done s new order k room) (bench_refused s room NoRoom)) (bench_refused s room TooManyAsked)) q
 
@@ -120,28 +119,28 @@ module _ (s : Session) (good : Good s) (v order : List ℕ) (k : ℕ) (room : Li
         let f = good_fit c (holds e).accepted.free (card_fits s (holds e)).pinned order g in
         (f.long, record { below = f.entries; once = f.once }, f.after)
 
-    judged_as_15 : ¬ (length order ≡ step_count s) → order_judged c order ≡ Faulty OrderLength
+    judged_as_15 : ¬ (length order ≡ step_count s) → order_judged c order ≡ Err OrderLength
     judged_as_15 n = go (order_judged c order) judged
       where
-        go : (j : Verdict) → Judgement c (holds e).accepted.free (card_fits s (holds e)).pinned order j → j ≡ Faulty OrderLength
+        go : (j : Verdict) → Judgement c (holds e).accepted.free (card_fits s (holds e)).pinned order j → j ≡ Err OrderLength
         go j (judged-15 m) = refl
         go j (judged-16 l m) = absurd (n l)
         go j (judged-17 l b o m) = absurd (n l)
         go j (taken g) = absurd (n (fit g).0)
 
-    judged_as_16 : length order ≡ step_count s → ¬ Entries c order → order_judged c order ≡ Faulty OrderEntry
+    judged_as_16 : length order ≡ step_count s → ¬ Entries c order → order_judged c order ≡ Err OrderEntry
     judged_as_16 l n = go (order_judged c order) judged
       where
-        go : (j : Verdict) → Judgement c (holds e).accepted.free (card_fits s (holds e)).pinned order j → j ≡ Faulty OrderEntry
+        go : (j : Verdict) → Judgement c (holds e).accepted.free (card_fits s (holds e)).pinned order j → j ≡ Err OrderEntry
         go j (judged-15 m) = absurd (m l)
         go j (judged-16 q m) = refl
         go j (judged-17 q b o m) = absurd (n (record { below = b; once = o }))
         go j (taken g) = absurd (n (fit g).1)
 
-    judged_as_17 : length order ≡ step_count s → Entries c order → ¬ Reading c order → order_judged c order ≡ Faulty OrderEarly
+    judged_as_17 : length order ≡ step_count s → Entries c order → ¬ Reading c order → order_judged c order ≡ Err OrderEarly
     judged_as_17 l x n = go (order_judged c order) judged
       where
-        go : (j : Verdict) → Judgement c (holds e).accepted.free (card_fits s (holds e)).pinned order j → j ≡ Faulty OrderEarly
+        go : (j : Verdict) → Judgement c (holds e).accepted.free (card_fits s (holds e)).pinned order j → j ≡ Err OrderEarly
         go j (judged-15 m) = absurd (m l)
         go j (judged-16 q m) = absurd (m (x.below, x.once))
         go j (judged-17 q b o m) = refl
@@ -149,10 +148,10 @@ module _ (s : Session) (good : Good s) (v order : List ℕ) (k : ℕ) (room : Li
 
   -- and a number that applies is given
   pub bench_refuses : (r : Refusal) → BenchGets s v order k room r → result ≡ bench_refused s room r
-  bench_refuses r (gets_vector g) = by_vector (Faulty r) (gets_judged s.rested s.inputs v r g)
-  bench_refuses r (gets_15 e w n) = by_order e w (Faulty OrderLength) (judged_as_15 e n)
-  bench_refuses r (gets_16 e w l n) = by_order e w (Faulty OrderEntry) (judged_as_16 e l n)
-  bench_refuses r (gets_17 e w l x n) = by_order e w (Faulty OrderEarly) (judged_as_17 e l x n)
+  bench_refuses r (gets_vector g) = by_vector (Err r) (gets_judged s.rested s.inputs v r g)
+  bench_refuses r (gets_15 e w n) = by_order e w (Err OrderLength) (judged_as_15 e n)
+  bench_refuses r (gets_16 e w l n) = by_order e w (Err OrderEntry) (judged_as_16 e l n)
+  bench_refuses r (gets_17 e w l x n) = by_order e w (Err OrderEarly) (judged_as_17 e l x n)
   bench_refuses r (gets_19 e w g l) = by_limits e w g false _ (lt-leb k (step_count s) l) refl
   bench_refuses r (gets_18 e w g l b) = by_limits e w g true false (le-leb k (step_count s) l) (lt-leb (step_count s) (length room) b)
 
@@ -175,9 +174,9 @@ module _ (s : Session) (good : Good s) (v order : List ℕ) (k : ℕ) (room : Li
     count_is = run_count s new (steps_of c (take k order)) ∙ length-map (take k order) (step_at (step_list c)) ∙ length-take-le k order (omega (arith, d.asked, order_long))
 
     -- "A vector by steps and a bench run return the steps done."
-    pub bench_answers : result.moved.answer ≡ Done k
+    pub bench_answers : result.moved.answer ≡ Ok k
     unfolding bench_done
-    bench_answers = ap (λ b. b.moved.answer) bench_does ∙ ap (λ n. Done n) count_is
+    bench_answers = ap (λ b. b.moved.answer) bench_does ∙ ap (λ n. Ok n) count_is
 
     -- the byte of a step that was done is the rule's value, that of any other says so
     pub bench_proper : (e : ℕ) → e ∈ take k order
@@ -199,20 +198,20 @@ module _ (s : Session) (good : Good s) (v order : List ℕ) (k : ℕ) (room : Li
         (some_no (λ x. eqb x e) (take k order) (λ x m. ne_eqb x e (λ q. n (subst (λ y. y ∈ take k order) q m))))
 
     -- "The session moves only when k is the whole list,"
-    pub bench_part : k < step_count s → result.moved ≡ record { answer = Done k; session = s }
+    pub bench_part : k < step_count s → result.moved ≡ record { answer = Ok k; session = s }
     unfolding bench_done
     bench_part l =
         ap (λ b. b.moved) bench_does
-        ∙ ap₂ (λ n x. record { answer = Done n; session = cond x (ran_session s along) s }) count_is (ne_eqb k (step_count s) (λ q. omega arith))
+        ∙ ap₂ (λ n x. record { answer = Ok n; session = cond x (ran_session s along) s }) count_is (ne_eqb k (step_count s) (λ q. omega arith))
 
     -- "and then exactly as a vector moves it"
-    pub bench_whole : k ≡ step_count s → result.moved ≡ record { answer = Done (step_count s); session = moved_by s new }
+    pub bench_whole : k ≡ step_count s → result.moved ≡ record { answer = Ok (step_count s); session = moved_by s new }
     unfolding bench_done
     bench_whole q =
         let w : take k order ≡ order = ap (λ n. take n order) (q ∙ sym order_long) ∙ take-length order in
         ap (λ b. b.moved) bench_does
-        ∙ ap₂ (λ n x. record { answer = Done n; session = cond x (ran_session s along) s }) (count_is ∙ q) (eq-eqb k (step_count s) q)
-        ∙ ap (λ x. record { answer = Done (step_count s); session = x }) (ap (λ es. ran_session s (ran_along s new (steps_of c es))) w ∙ any.whole_leaves)
+        ∙ ap₂ (λ n x. record { answer = Ok n; session = cond x (ran_session s along) s }) (count_is ∙ q) (eq-eqb k (step_count s) q)
+        ∙ ap (λ x. record { answer = Ok (step_count s); session = x }) (ap (λ es. ran_session s (ran_along s new (steps_of c es))) w ∙ any.whole_leaves)
 
   -- For every result
 

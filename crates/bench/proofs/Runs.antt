@@ -17,7 +17,7 @@ use Rattle.lists.proofs.Rooms.{fills_same}
 use Rattle.word.specs.Word.{bit, val}
 use Rattle.rule.specs.Net.{Net}
 use Rattle.rule.specs.Steps.{IsStep, step_list, no_step, step_at}
-use Rattle.rule.specs.declared.Answer.TheVariants.{Done}
+use Rattle.std.specs.Prelude.{Ok, Err}
 use Rattle.rule.proofs.Runs.{take_in}
 use Rattle.rule.proofs.StepLists.{list_only}
 use Rattle.card.specs.declared.Session.{Session}
@@ -100,20 +100,20 @@ module _ (s : Session) (h : HasCard s) (nets times : List ℕ) (total : ℕ) (or
           ∙ ap (λ n. filled (byte_at c after (take k order)) n room) t.total_is
 
       abbrev benched_as : Ran → Session → Benched
-      benched_as r next = record { moved = record { answer = Done r.count; session = next }; room = filled (byte_at c r.words (take k order)) (length (step_list c)) room }
+      benched_as r next = record { moved = record { answer = Ok r.count; session = next }; room = filled (byte_at c r.words (take k order)) (length (step_list c)) room }
 
       handed : (b : Bool) → eqb k (length (step_list c)) ≡ b → (next : Session) → next ≡ cond b (ran_session s left) s
-          → record { moved = record { answer = Done count; session = next }; room = written } ≡ bench_done s new order k room
+          → record { moved = record { answer = Ok count; session = next }; room = written } ≡ bench_done s new order k room
       unfolding bench_done
       handed b e next q =
-          ap₂ (λ x xs. record { moved = record { answer = Done count; session = x }; room = xs }) (q ∙ ap (λ x. cond x (ran_session s left) s) (sym e)) written_is
+          ap₂ (λ x xs. record { moved = record { answer = Ok count; session = x }; room = xs }) (q ∙ ap (λ x. cond x (ran_session s left) s) (sym e)) written_is
           ∙ ap (λ r. benched_as r (cond (eqb k (length (step_list c))) (ran_session s r) s)) along_is
 
-      pub part_done : k < total → record { moved = record { answer = Done count; session = s }; room = written } ≡ bench_done s new order k room
+      pub part_done : k < total → record { moved = record { answer = Ok count; session = s }; room = written } ≡ bench_done s new order k room
       part_done l = handed false (ne_eqb k (length (step_list c)) (λ e. omega (arith, t.total_is))) s refl
 
       pub whole_done : total ≤ k → (before : List Bool) (words : List ℕ) (next : Session) → before ≡ listed (ends s) 256 → words ≡ histories_from s.sets after
-          → next ≡ resting s s.rested before words → record { moved = record { answer = Done count; session = next }; room = written } ≡ bench_done s new order k room
+          → next ≡ resting s s.rested before words → record { moved = record { answer = Ok count; session = next }; room = written } ≡ bench_done s new order k room
       unfolding ran_session
       whole_done l before words next eb ew en =
           handed mathlib.Core.Bool.true (eq-eqb k (length (step_list c)) (omega (arith, t.total_is))) next (en ∙ ap₂ (λ b w. resting s s.rested b w) eb ew)

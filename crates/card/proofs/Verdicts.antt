@@ -12,16 +12,15 @@ use Rattle.rule.specs.Level.{depth, Looped}
 use Rattle.rule.specs.Steps.{gate_order, step_list}
 use Rattle.rule.specs.declared.Refusal.{Refusal}
 use Rattle.rule.specs.declared.Refusal.TheVariants.{NoInput, NoSuchPin, Looped as LoopedCard, TooDeep, TooManySteps}
-use Rattle.rule.specs.declared.Answer.TheVariants.{Done, Refused}
-use Rattle.card_wiring.specs.declared.Verdict.TheVariants.{Passed}
+use Rattle.std.specs.Prelude.{Result, Ok, Err}
 use Rattle.card_wiring.specs.declared.Wired.{Wired}
-use Rattle.card_wiring.specs.Wired.{pins_fit, most_back, set_words, passed_wiring, refused_wiring as faulty, wired_of}
+use Rattle.card_wiring.specs.Wired.{pins_fit, most_back, set_words, passed_wiring, refused_wiring as faulty, verdict_of, wired_of}
 use Rattle.card_records.specs.Scan.{Meaning, Stops, Means, meaning}
 use Rattle.card_records.specs.Written.{Bytes}
 use Rattle.card_records.proofs.Cards.{read_back, written, why, stops}
 use Rattle.card_records.proofs.Fitted.{read_fits}
 use Rattle.card.specs.declared.Session.{Session}
-use Rattle.card.specs.declared.Loaded.{Loaded}
+use Rattle.card.specs.Loaded.{Loaded}
 use Rattle.card.specs.Session.{inputs_of, session_of}
 use Rattle.card.specs.Load.{refusal, taken, concluded, judged, load_meant, load_of}
 use Rattle.card.specs.Allowed.{Fed, Deep, Long, Accepted, Allowed, Writes, LoadGets, gets_stopped, gets_9, gets_4, gets_5, gets_6, gets_7}
@@ -44,8 +43,8 @@ module _ (old : Session) (c : List Net) where
       ap (cond (eqb (inputs_of c) 0) (refusal old NoInput))
       (go (passed_wiring (gate_order c) (set_words c)) refl (pins_fit c) (ltb (length c) (most_back c)) (ltb 63 (depth c)) (ltb 4096 (length (step_list c))))
     where
-      go : (w : Wired) → w.verdict ≡ Passed → (a b d e : Bool)
-          → concluded old (session_of c) (length c) (cond a (cond b (faulty LoopedCard) (cond d (faulty TooDeep) (cond e (faulty TooManySteps) w))) (faulty NoSuchPin)).verdict
+      go : (w : Result Wired Refusal) → verdict_of w ≡ Ok tt → (a b d e : Bool)
+          → concluded old (session_of c) (length c) (verdict_of (cond a (cond b (faulty LoopedCard) (cond d (faulty TooDeep) (cond e (faulty TooManySteps) w))) (faulty NoSuchPin)))
           ≡ cond a (cond b (refusal old LoopedCard) (cond d (refusal old TooDeep) (cond e (refusal old TooManySteps) (taken c)))) (refusal old NoSuchPin)
       go w h false b d e = refl
       go w h true true d e = refl
@@ -164,10 +163,10 @@ module _ (old : Session) (s : List ℕ) (bytes : Bytes s) where
   load_refuses r (gets_6 c w f n l d) = load_means c w ∙ judged_6 old c (pinned_by c w) f n l d
   load_refuses r (gets_7 c w f n l d k) = load_means c w ∙ judged_7 old c (pinned_by c w) f n l d k
 
-  pub load_refused : (r : Refusal) → (load_of old s).answer ≡ Refused r → LoadGets s r
+  pub load_refused : (r : Refusal) → (load_of old s).answer ≡ Err r → LoadGets s r
   load_refused r e = go (load_of old s) ruled e
     where
-      go : (x : Loaded) → Ruling old s x → x.answer ≡ Refused r → LoadGets s r
+      go : (x : Loaded) → Ruling old s x → x.answer ≡ Err r → LoadGets s r
       go x (refuses q g) e = let h : q ≡ r = cc in subst (LoadGets s) h g
       go x (takes a) e = let z : ◌≡◌ {A = ℕ} 0 1 = cc in absurd (omega arith)
 
@@ -177,15 +176,15 @@ module _ (old : Session) (s : List ℕ) (bytes : Bytes s) where
       let w : Writes s a.card = record { bytes = a.bytes; legible = a.accepted.legible } in
       load_means a.card w ∙ judged_0 old a.card (pinned_by a.card w) a.accepted
 
-  pub load_taken : (k : ℕ) → (load_of old s).answer ≡ Done k → (a : Allowed s) × (load_of old s ≡ taken a.card)
+  pub load_taken : (k : ℕ) → (load_of old s).answer ≡ Ok k → (a : Allowed s) × (load_of old s ≡ taken a.card)
   load_taken k e = go (load_of old s) ruled e
     where
-      go : (x : Loaded) → Ruling old s x → x.answer ≡ Done k → (a : Allowed s) × (x ≡ taken a.card)
+      go : (x : Loaded) → Ruling old s x → x.answer ≡ Ok k → (a : Allowed s) × (x ≡ taken a.card)
       go x (refuses q g) e = let z : ◌≡◌ {A = ℕ} 0 1 = cc in absurd (omega arith)
       go x (takes a) e = (a, refl)
 
   -- a card that load takes is held
-  pub load_holds : (l : Loaded) → l ≡ load_of old s → (k : ℕ) → l.answer ≡ Done k → HasCard l.session
+  pub load_holds : (l : Loaded) → l ≡ load_of old s → (k : ℕ) → l.answer ≡ Ok k → HasCard l.session
   load_holds l e k d =
       let t = load_taken k (ap (λ x. x.answer) (sym e) ∙ d) in
       subst (λ x. HasCard x.session) (sym (e ∙ t.1)) (session_holds t.0.card t.0.accepted)

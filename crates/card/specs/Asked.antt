@@ -3,8 +3,8 @@ use Rattle.std.specs.Prelude.{cond, ℕ, ltb, length}
 use Rattle.rule.specs.Level.{level, depth}
 use Rattle.rule.specs.Steps.{step_list}
 use Rattle.rule.specs.declared.Refusal.TheVariants.{NotReady, NoSuchNet}
-use Rattle.rule.specs.declared.NetAnswer.{NetAnswer}
-use Rattle.rule.specs.declared.NetAnswer.TheVariants.{Net, Refused}
+use Rattle.rule.specs.Answers.{NetAnswer}
+use Rattle.std.specs.Prelude.{Ok, Err}
 use Rattle.word.specs.Word.{word_of}
 use Rattle.rule.specs.Chain.{pc_set}
 use Rattle.card.specs.declared.Session.{Session}
@@ -14,8 +14,8 @@ use Rattle.card.specs.Session.{card_of}
 unfoldable pub net_asked : Session → ℕ → NetAnswer
 net_asked s n =
     cond s.loaded
-    (cond (ltb n s.nets) (Net (level (card_of s) n) (word_of 64 (pc_set (card_of s) n))) (Refused NoSuchNet))
-    (Refused NotReady)
+    (cond (ltb n s.nets) (Ok (record { level = level (card_of s) n; word = word_of 64 (pc_set (card_of s) n) })) (Err NoSuchNet))
+    (Err NotReady)
 
 -- depth and number of steps, and 0 where nothing is loaded
 unfoldable pub depth_asked : Session → ℕ

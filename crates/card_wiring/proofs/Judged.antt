@@ -13,12 +13,13 @@ use Rattle.rule.specs.Level.{level, depth}
 use Rattle.rule.specs.Steps.{gate_order, step_list}
 use Rattle.rule.specs.declared.Refusal.{Refusal}
 use Rattle.rule.specs.declared.Refusal.TheVariants.{NoSuchPin, Looped, TooDeep, TooManySteps}
-use Rattle.card_wiring.specs.declared.Verdict.TheVariants.{Refused, Passed}
+use Rattle.std.specs.Prelude.{Result, Ok, Err}
+use Rattle.rule.specs.Answers.{Verdict}
 use Rattle.card_wiring.specs.declared.Wired.{Wired}
 use Rattle.card_wiring.specs.declared.Order.{Order}
 use Rattle.card_wiring.specs.Layout.{counts_of, places_of}
 use Rattle.card_wiring.specs.Inner.Wires.{Fits, delay_at, all_fit, backs, highest, order_of, sets_along, sizes_of}
-use Rattle.card_wiring.specs.Wired.{pins_fit, most_back, set_words, refused_wiring, passed_wiring, wired_of}
+use Rattle.card_wiring.specs.Wired.{pins_fit, most_back, set_words, refused_wiring, passed_wiring, verdict_of, wired_of}
 use Rattle.card_wiring.specs.Inner.Wired.{as_order, set_wired, level_wired, arrays_wired}
 use Rattle.card_wiring.proofs.Layouts.{fits_laid, back_laid, levels_laid, depth_laid, order_laid}
 use Rattle.card_wiring.proofs.Judgements.{pins_named, back_no_loop}
@@ -65,7 +66,7 @@ module _ {counts places : List ℕ} {n : ℕ} {order : List ℕ} {by : Order} {s
   pub sets_refused : 4096 < steps → refused_wiring TooManySteps ≡ set_wired counts places n order
   sets_refused l = rw (lt-ltb 4096 (sizes_of (sets_along counts places n order) order) (rw (known.counted, known.made) at l))
 
-  pub sets_passed : steps ≤ 4096 → ◌≡◌ {A = Wired} (record { verdict = Passed; gates = by.gates; order = by.list; sets = sets }) (set_wired counts places n order)
+  pub sets_passed : steps ≤ 4096 → ◌≡◌ {A = Result Wired Refusal} (Ok (record { gates = by.gates; order = by.list; sets = sets })) (set_wired counts places n order)
   sets_passed l = rw (le-ltb 4096 (sizes_of (sets_along counts places n order) order) (rw (known.counted, known.made) at l), known.ordering, known.made)
 
 -- two judgements by one test agree where their arms do
@@ -79,7 +80,7 @@ if_false a false x y z e h = rw e (h refl)
 
 module _ (c : List Net) (fit : Fits c) (pinned : Pinned c) where
   -- 7 on a card without loops that is not too deep
-  steps_wired : Wired
+  steps_wired : Result Wired Refusal
   steps_wired = cond (ltb 4096 (length (step_list c))) (refused_wiring TooManySteps) (passed_wiring (gate_order c) (set_words c))
 
   steps_judged : Named c → most_back c ≤ length c → depth c ≤ 63 → set_wired (counts_of c) (places_of c) (length c) (gate_order c) ≡ steps_wired
@@ -105,20 +106,20 @@ module _ (c : List Net) (fit : Fits c) (pinned : Pinned c) where
       (ap (λ levels. highest levels (length c)) (levels_laid c fit) ∙ depth_laid c fit)))
 
 -- a wiring that passes has the order and the sets
-pub wired_passed : (c : List Net) → (wired_of c).verdict ≡ Passed
+pub wired_passed : (c : List Net) → verdict_of (wired_of c) ≡ (Ok tt)
     → wired_of c ≡ passed_wiring (gate_order c) (set_words c)
 unfolding wired_of
 wired_passed c = go (pins_fit c) (ltb (length c) (most_back c)) (ltb 63 (depth c)) (ltb 4096 (length (step_list c)))
   where
-    good : Wired
+    good : Result Wired Refusal
     good = passed_wiring (gate_order c) (set_words c)
 
-    never : (r : Refusal) → Refused r ≡ Passed → ⊥
+    never : (r : Refusal) → ◌≡◌ {A = Verdict} (Err r) (Ok tt) → ⊥
     never r e = let z : ◌≡◌ {A = ℕ} 0 1 = cc in omega arith
 
     go : (a b d e : Bool)
-        → (cond a (cond b (refused_wiring Looped) (cond d (refused_wiring TooDeep)
-        (cond e (refused_wiring TooManySteps) good))) (refused_wiring NoSuchPin)).verdict ≡ Passed
+        → verdict_of (cond a (cond b (refused_wiring Looped) (cond d (refused_wiring TooDeep)
+        (cond e (refused_wiring TooManySteps) good))) (refused_wiring NoSuchPin)) ≡ (Ok tt)
         → cond a (cond b (refused_wiring Looped) (cond d (refused_wiring TooDeep)
         (cond e (refused_wiring TooManySteps) good))) (refused_wiring NoSuchPin) ≡ good
     go false b d e h = absurd (never _ h)

@@ -1,6 +1,6 @@
 -- The judgement of a card's wiring, 4, 5, 6, 7 in this order, and what is kept of a card that passes: the order of its gates and the
 -- PC-sets. Assumes nothing.
-use Rattle.std.specs.Prelude.{Bool, cond, ◌||◌, List, map, ℕ, ◌+◌, ltb, eqb, length, replicate}
+use Rattle.std.specs.Prelude.{Bool, cond, ◌||◌, List, map, ℕ, ◌+◌, ltb, eqb, length, Result, Ok, Err}
 use Rattle.lists.specs.Entries.{every, from}
 use Rattle.lists.specs.Listed.{listed}
 use Rattle.word.specs.Word.{word_of}
@@ -11,7 +11,7 @@ use Rattle.rule.specs.Steps.{gate_order, step_list}
 use Rattle.rule.specs.declared.Refusal.{Refusal}
 use Rattle.rule.specs.declared.Refusal.TheVariants.{NoSuchPin, Looped, TooDeep, TooManySteps}
 use Rattle.card_wiring.specs.Layout.{padded}
-use Rattle.card_wiring.specs.declared.Verdict.TheVariants.{Refused, Passed}
+use Rattle.rule.specs.Answers.{Verdict}
 use Rattle.card_wiring.specs.declared.Wired.{Wired}
 
 -- a pin names one of n nets, or is open
@@ -30,15 +30,20 @@ most_back c = most (map (gates_back c (length c + 1)) (from 0 (length c)))
 unfoldable pub set_words : List Net → List ℕ
 set_words c = listed (λ n. cond (ltb n (length c)) (word_of 64 (pc_set c n)) 0) 256
 
-abbrev pub refused_wiring : Refusal → Wired
-refused_wiring r = record { verdict = Refused r; gates = 0; order = replicate 256 0; sets = replicate 256 0 }
+abbrev pub refused_wiring : Refusal → Result Wired Refusal
+refused_wiring r = Err r
 
 -- a card that passes, with the order of its gates and the PC-sets
-abbrev pub passed_wiring : List ℕ → List ℕ → Wired
-passed_wiring order sets = record { verdict = Passed; gates = length order; order = padded order; sets = sets }
+abbrev pub passed_wiring : List ℕ → List ℕ → Result Wired Refusal
+passed_wiring order sets = Ok (record { gates = length order; order = padded order; sets = sets })
+
+-- whether a wiring passes, without what is kept of it
+abbrev pub verdict_of : Result Wired Refusal → Verdict
+verdict_of (Ok kept) = Ok tt
+verdict_of (Err r) = Err r
 
 -- 4, 5, 6, 7; then the gates by level and net, and the PC-sets
-unfoldable pub wired_of : List Net → Wired
+unfoldable pub wired_of : List Net → Result Wired Refusal
 wired_of c =
     cond (pins_fit c)
     (cond (ltb (length c) (most_back c)) (refused_wiring Looped)

@@ -327,30 +327,12 @@ pub fn sizes_of<'a>(sets: &'a [u64; 256], order: &'a [u16; 256], gates: usize) -
     sum
 }
 
-// What the judgement of a wiring comes to.
-#[derive(Clone, Copy)]
-pub enum Verdict {
-    Refused(Refusal),
-    Passed,
-}
-
+// What the wiring of a card gives: the gates in their order, and the PC-sets.
 #[derive(Clone, Copy)]
 pub struct Wired {
-    pub verdict: Verdict,
     pub gates: usize,
     pub order: [u16; 256],
     pub sets: [u64; 256],
-}
-
-fn refused(r: Refusal) -> Wired
-    ensures { result ≡ Rattle.card_wiring.specs.Wired.refused_wiring r }
-{
-    Wired {
-        verdict: Verdict::Refused(r),
-        gates: 0,
-        order: [0; 256],
-        sets: [0; 256],
-    }
 }
 
 // The gates' order and the PC-sets of a card whose levels are known, or 7.
@@ -360,7 +342,7 @@ fn with_sets<'a>(
     n: usize,
     levels: &'a [u64; 256],
     depth: u64,
-) -> Wired
+) -> Result<Wired, Refusal>
     requires wires { Wires counts.now places.now n }
     requires fitting { Fitting counts.now places.now n }
     requires depth_bound { depth < 1000 }
@@ -371,32 +353,27 @@ fn with_sets<'a>(
     let order = by.list;
     let sets = pcsets(counts, places, n, &order, gates);
     if 4096 < sizes_of(&sets, &order, gates) {
-        return refused(Refusal::TooManySteps);
+        return Err(Refusal::TooManySteps);
     }
-    Wired {
-        verdict: Verdict::Passed,
-        gates,
-        order,
-        sets,
-    }
+    Ok(Wired { gates, order, sets })
 }
 
 // The judgement of a card's wiring: 4, 5, 6, 7; then the order of its gates and their PC-sets.
-pub fn wire<'a>(counts: &'a [u8; 256], places: &'a [u16; 2048], n: usize) -> Wired
+pub fn wire<'a>(counts: &'a [u8; 256], places: &'a [u16; 2048], n: usize) -> Result<Wired, Refusal>
     requires { Wires counts.now places.now n }
     ensures { result ≡ arrays_wired counts.now places.now n }
 {
     if !all_fit(counts, places, n) {
-        return refused(Refusal::NoSuchPin);
+        return Err(Refusal::NoSuchPin);
     }
     // Every delay is one unit, so the gates counted backwards are the levels too.
     let levels = gates_back(counts, places, n);
     let depth = highest_of(&levels, n);
     if (n as u64) < depth {
-        return refused(Refusal::Looped);
+        return Err(Refusal::Looped);
     }
     if 63 < depth {
-        return refused(Refusal::TooDeep);
+        return Err(Refusal::TooDeep);
     }
     with_sets(counts, places, n, &levels, depth)
 }

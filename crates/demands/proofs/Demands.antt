@@ -15,9 +15,9 @@ use Rattle.rule.specs.Steps.{Joined, GoodOrder, step_list, step_at}
 use Rattle.rule.specs.Numbers.{number_of, answer_number}
 use Rattle.rule.specs.declared.Refusal.{Refusal}
 use Rattle.rule.specs.declared.Refusal.TheVariants.{OrderLength, OrderEntry, OrderEarly}
-use Rattle.rule.specs.declared.Answer.TheVariants.{Done}
+use Rattle.std.specs.Prelude.{Ok, Err}
 use Rattle.rule.proofs.StepLists.{list_number}
-use Rattle.card_wiring.specs.declared.Verdict.{Verdict}
+use Rattle.rule.specs.Answers.{Verdict}
 use Rattle.inputs.specs.Inputs.{given}
 use Rattle.inputs.specs.Allowed.{Vector, gets_12, gets_10, gets_11}
 use Rattle.card_records.specs.Written.{Bytes}
@@ -208,7 +208,7 @@ card_runs s g l = record {
     there u f = (λ n. get_or (rest_of s u).session.before n false, (demand_2_rest s g l u f).0)
 
 -- "For each accepted card": bytes that document 01 allows are loaded over any session, the count is that of their card's nets, and the card runs
-pub demand_2_card : (old : Session) (b : List ℕ) → Bytes b → (a : Allowed b) → ((load_of old b).answer ≡ Done (length a.card)) × CardRuns (load_of old b).session a.card
+pub demand_2_card : (old : Session) (b : List ℕ) → Bytes b → (a : Allowed b) → ((load_of old b).answer ≡ Ok (length a.card)) × CardRuns (load_of old b).session a.card
 demand_2_card old b h a =
     let took = load_takes old b h a in
     let runs = subst (CardRuns (session_of a.card)) (session_card a.card a.accepted) (card_runs (session_of a.card) (taken_good a.card a.accepted) (loaded_is (session_of a.card) (session_holds a.card a.accepted))) in
@@ -221,7 +221,7 @@ demand_3_order s g r v order good = run_any_order s g r (given s.kinds v) (steps
 
 -- "The steps done number exactly the pairs of a gate and a time t that some chain of t gates joins to an input or constant."
 pub demand_3_count : (s : Session) → Good s → s.rested ≡ true → (v : List ℕ) → Vector s.inputs v
-    → (k : ℕ) × ((steps_vector_of s v).answer ≡ Done k) × Number (Joined (card_of s)) k
+    → (k : ℕ) × ((steps_vector_of s v).answer ≡ Ok k) × Number (Joined (card_of s)) k
 demand_3_count s g r v fits =
     ((ran_along s (given s.kinds v) (step_list (card_of s))).count, ap (λ m. m.answer) (steps_takes s v r fits), steps_number s g r (given s.kinds v))
 

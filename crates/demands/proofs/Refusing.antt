@@ -9,11 +9,9 @@ use Rattle.rule.specs.Net.{Net}
 use Rattle.rule.specs.Steps.{step_list}
 use Rattle.rule.specs.declared.Refusal.{Refusal}
 use Rattle.rule.specs.declared.Refusal.TheVariants.{NotReady, NoRoom, NoInput, NoSuchNet, NoChange, TooManyAsked}
-use Rattle.rule.specs.declared.Answer.{Answer}
-use Rattle.rule.specs.declared.Answer.TheVariants.{Done, Refused}
-use Rattle.rule.specs.declared.NetAnswer.TheVariants.{Net as Known, Refused as Unknown}
-use Rattle.card_wiring.specs.declared.Verdict.{Verdict}
-use Rattle.card_wiring.specs.declared.Verdict.TheVariants.{Refused as Faulty, Passed}
+use Rattle.rule.specs.Answers.{Answer}
+use Rattle.std.specs.Prelude.{Ok, Err}
+use Rattle.rule.specs.Answers.{Verdict}
 use Rattle.card_wiring.specs.Wired.{wired_of}
 use Rattle.inputs.specs.Inputs.{given, vector_judged}
 use Rattle.card_records.specs.Scan.{Meaning, Stops, Means, meaning}
@@ -37,10 +35,10 @@ use Rattle.demands.specs.Operations.{Operation, load, rest, vector, history, lis
 abbrev Refusing : Session → Lent → Outcome → Type 0
 Refusing s lent o = ¬ (o.number ≡ 0) → Same s lent o
 
-refuses : {s : Session} {lent : Lent} (why : Refusal) → Refusing s lent (answered (Refused why) s lent)
+refuses : {s : Session} {lent : Lent} (why : Refusal) → Refusing s lent (answered (Err why) s lent)
 refuses why n = record { count = refl; level = refl; word = refl; session = refl; room = refl }
 
-does : {s s' : Session} {lent lent' : Lent} (k : ℕ) → Refusing s lent (answered (Done k) s' lent')
+does : {s s' : Session} {lent lent' : Lent} (k : ℕ) → Refusing s lent (answered (Ok k) s' lent')
 does k n = absurd (n refl)
 
 load_keeps : (s : Session) (b : List ℕ) → Refusing s (slices []) (outcome s (load b))
@@ -49,8 +47,8 @@ load_keeps s b = by_meaning (meaning b)
   where
     by_verdict : (c : List Net) (t : Bool) (w : Verdict) → let l = cond t (refusal s NoInput) (concluded s (session_of c) (length c) w) in Refusing s (slices []) (answered l.answer l.session (slices []))
     by_verdict c true w = refuses NoInput
-    by_verdict c false (Faulty why) = refuses why
-    by_verdict c false Passed = does (length c)
+    by_verdict c false (Err why) = refuses why
+    by_verdict c false (Ok _) = does (length c)
 
     by_meaning : (m : Meaning) → let l = load_meant s m in Refusing s (slices []) (answered l.answer l.session (slices []))
     by_meaning (Stops why) = refuses why
@@ -58,8 +56,8 @@ load_keeps s b = by_meaning (meaning b)
 
 -- an operation that takes a vector
 moves_keep : (s next : Session) (verdict : Verdict) (k : ℕ) → let m = moving s verdict k next in Refusing s (slices []) (answered m.answer m.session (slices []))
-moves_keep s next (Faulty why) k = refuses why
-moves_keep s next Passed k = does k
+moves_keep s next (Err why) k = refuses why
+moves_keep s next (Ok _) k = does k
 
 vector_keeps : (s : Session) (e : Engine) (v : List ℕ) → Refusing s (slices []) (outcome s (vector e v))
 unfolding vector_of steps_vector_of
@@ -73,7 +71,7 @@ rest_keeps s v = moves_keep s _ (vector_judged s.loaded s.inputs v) 0
 -- an operation that fills lent room: not ready, too little room, or done
 told_keeps : (s : Session) (ws bs fs ws' bs' fs' : List ℕ) (k : ℕ) (x y : Bool)
     → let kept : Answer → Told = λ a. record { answer = a; words = ws; befores = bs; flags = fs } in
-    let h = cond x (cond y (record { answer = Done k; words = ws'; befores = bs'; flags = fs' }) (kept (Refused NoRoom))) (kept (Refused NotReady)) in
+    let h = cond x (cond y (record { answer = Ok k; words = ws'; befores = bs'; flags = fs' }) (kept (Err NoRoom))) (kept (Err NotReady)) in
     Refusing s (slices (ws ∷ bs ∷ fs ∷ [])) (answered h.answer s (slices (h.words ∷ h.befores ∷ h.flags ∷ [])))
 told_keeps s ws bs fs ws' bs' fs' k true true = does k
 told_keeps s ws bs fs ws' bs' fs' k true false = refuses NoRoom
@@ -85,7 +83,7 @@ history_keeps s ws bs fs = told_keeps s ws bs fs _ _ _ s.nets s.rested (leb s.ne
 
 listed_keeps : (s : Session) (ns ts ns' ts' : List ℕ) (k : ℕ) (x y : Bool)
     → let kept : Answer → Listed = λ a. record { answer = a; nets = ns; times = ts } in
-    let l = cond x (cond y (record { answer = Done k; nets = ns'; times = ts' }) (kept (Refused NoRoom))) (kept (Refused NotReady)) in
+    let l = cond x (cond y (record { answer = Ok k; nets = ns'; times = ts' }) (kept (Err NoRoom))) (kept (Err NotReady)) in
     Refusing s (slices (ns ∷ ts ∷ [])) (answered l.answer s (slices (l.nets ∷ l.times ∷ [])))
 listed_keeps s ns ts ns' ts' k true true = does k
 listed_keeps s ns ts ns' ts' k true false = refuses NoRoom
@@ -97,7 +95,7 @@ list_keeps s ns ts = let n = length (step_list (card_of s)) in listed_keeps s ns
 
 filled_keep : (s : Session) (room room' : List StepRecord) (k : ℕ) (x y : Bool)
     → let kept : Answer → Answered = λ a. record { answer = a; room = room } in
-    let r = cond x (cond y (record { answer = Done k; room = room' }) (kept (Refused NoRoom))) (kept (Refused NotReady)) in
+    let r = cond x (cond y (record { answer = Ok k; room = room' }) (kept (Err NoRoom))) (kept (Err NotReady)) in
     Refusing s (record { numbers = []; structs = room }) (answered r.answer s (record { numbers = []; structs = r.room }))
 filled_keep s room room' k true true = does k
 filled_keep s room room' k true false = refuses NoRoom
@@ -111,7 +109,7 @@ ask_keeps : (s : Session) (n : ℕ) → Refusing s (slices []) (outcome s (ask n
 unfolding net_asked
 ask_keeps s n = go s.loaded (ltb n s.nets) _ _
   where
-    go : (x y : Bool) (l w : ℕ) → Refusing s (slices []) (told (cond x (cond y (Known l w) (Unknown NoSuchNet)) (Unknown NotReady)) s)
+    go : (x y : Bool) (l w : ℕ) → Refusing s (slices []) (told (cond x (cond y (Known l w) (Err NoSuchNet)) (Err NotReady)) s)
     go true true l w m = absurd (m refl)
     go true false l w m = record { count = refl; level = refl; word = refl; session = refl; room = refl }
     go false y l w m = record { count = refl; level = refl; word = refl; session = refl; room = refl }
@@ -122,8 +120,8 @@ trace_keeps s n t room = go s.rested (ltb n s.nets) (changed_then s n t) (leb (t
   where
     go : (w x y z : Bool) (room' : List ℕ)
         → let kept : Answer → Traced = λ a. record { answer = a; room = room } in
-        let full : Traced = record { answer = Done (t + 1); room = room' } in
-        let r = cond w (cond x (cond y (cond z full (kept (Refused NoRoom))) (kept (Refused NoChange))) (kept (Refused NoSuchNet))) (kept (Refused NotReady)) in
+        let full : Traced = record { answer = Ok (t + 1); room = room' } in
+        let r = cond w (cond x (cond y (cond z full (kept (Err NoRoom))) (kept (Err NoChange))) (kept (Err NoSuchNet))) (kept (Err NotReady)) in
         Refusing s (slices (room ∷ [])) (answered r.answer s (slices (r.room ∷ [])))
     go true true true true room' = does (t + 1)
     go true true true false room' = refuses NoRoom
@@ -144,12 +142,12 @@ bench_keeps s v order k room = go (vector_judged s.rested s.inputs v)
 
     by_order : (j : Verdict)
         → let b = bench_order s (given s.kinds v) order k room j in Refusing s (slices (room ∷ [])) (answered b.moved.answer b.moved.session (slices (b.room ∷ [])))
-    by_order (Faulty why) = refuses why
-    by_order Passed = by_limits (leb k (length (step_list (card_of s)))) (leb (length (step_list (card_of s))) (length room))
+    by_order (Err why) = refuses why
+    by_order (Ok _) = by_limits (leb k (length (step_list (card_of s)))) (leb (length (step_list (card_of s))) (length room))
 
     go : (x : Verdict) → let b = bench_vector s v order k room x in Refusing s (slices (room ∷ [])) (answered b.moved.answer b.moved.session (slices (b.room ∷ [])))
-    go (Faulty why) = refuses why
-    go Passed = by_order (order_judged (card_of s) order)
+    go (Err why) = refuses why
+    go (Ok _) = by_order (order_judged (card_of s) order)
 
 pub keeps : (s : Session) (o : Operation) → Refusing s (lent_to o) (outcome s o)
 keeps s (load b) = load_keeps s b

@@ -6,7 +6,7 @@ use Rattle.rule.specs.Rule.{value}
 use Rattle.rule.specs.Steps.{Joined, step_list, step_at}
 use Rattle.rule.specs.declared.Refusal.{Refusal}
 use Rattle.rule.specs.declared.Refusal.TheVariants.{OrderLength, OrderEntry, OrderEarly}
-use Rattle.rule.specs.declared.Answer.TheVariants.{Done, Refused}
+use Rattle.std.specs.Prelude.{Ok, Err}
 use Rattle.card.specs.declared.Session.{Session}
 use Rattle.card.specs.Session.{card_of}
 use Rattle.session.specs.Moves.{given_to, ends, vector_of}
@@ -26,7 +26,7 @@ module _ (s : Session) (v order : List ℕ) (k : ℕ) (room : List ℕ) where
   pub record TurnedAway : Type 0 where
     pub why : Refusal
     pub fault : OrderFault why
-    pub refused : benched.moved.answer ≡ Refused why
+    pub refused : benched.moved.answer ≡ Err why
 
   -- the rule's value of a net at a time
   abbrev pub ruled : ℕ → ℕ → Bool
@@ -34,7 +34,7 @@ module _ (s : Session) (v order : List ℕ) (k : ℕ) (room : List ℕ) where
 
   -- "It writes one byte for each step number: the step's value if it is among the first k, else 2."
   pub record BenchValues : Type 0 where
-    pub done : benched.moved.answer ≡ Done k
+    pub done : benched.moved.answer ≡ Ok k
     pub first : (e : ℕ) → e ∈ take k order
         → let step = step_at (step_list (card_of s)) e in get_or benched.room e 0 ≡ val (ruled step.net step.time)
     pub others : (e : ℕ) → e < step_count s → ¬ (e ∈ take k order) → get_or benched.room e 0 ≡ not_done
@@ -44,4 +44,4 @@ module _ (s : Session) (v order : List ℕ) (k : ℕ) (room : List ℕ) where
     pub as_vector : benched.moved.session ≡ (vector_of s v).session
     pub history : (n : ℕ) → n < s.nets → (t : ℕ) → t < 64 → bit (get_or benched.moved.session.words n 0) t ≡ ruled n t
     pub before : (n : ℕ) → n < s.nets → get_or benched.moved.session.before n false ≡ ends s n
-    pub count : (m : ℕ) × (benched.moved.answer ≡ Done m) × Number (Joined (card_of s)) m
+    pub count : (m : ℕ) × (benched.moved.answer ≡ Ok m) × Number (Joined (card_of s)) m

@@ -5,7 +5,7 @@ use Rattle.rule.specs.Net.{Net}
 use Rattle.rule.specs.Rule.{value, Rest}
 use Rattle.rule.specs.Numbers.{answer_number}
 use Rattle.rule.specs.declared.Refusal.{Refusal}
-use Rattle.rule.specs.declared.Answer.TheVariants.{Done, Refused}
+use Rattle.std.specs.Prelude.{Ok, Err}
 use Rattle.inputs.specs.Allowed.{Vector}
 use Rattle.card.specs.declared.Session.{Session}
 use Rattle.card.specs.Session.{inputs_of}
@@ -21,15 +21,15 @@ use Rattle.demands.specs.Histories.{HandsOut}
 -- "A card is accepted exactly when document 01 allows it"; each number exactly when it gives it
 pub record Accepts (old : Session) (b : List ℕ) : Type 0 where
   pub taken_if : (a : Allowed b) → load_of old b ≡ taken a.card
-  pub taken_only : (k : ℕ) → (load_of old b).answer ≡ Done k → Allowed b
+  pub taken_only : (k : ℕ) → (load_of old b).answer ≡ Ok k → Allowed b
   pub refused_if : (r : Refusal) → LoadGets b r → load_of old b ≡ refusal old r
-  pub refused_only : (r : Refusal) → (load_of old b).answer ≡ Refused r → LoadGets b r
+  pub refused_only : (r : Refusal) → (load_of old b).answer ≡ Err r → LoadGets b r
 
 -- a session that holds a card, whatever the rest and the vectors, each by either engine: there is a settled state for the rest, all are answered 0, and a
 -- history hands out the rule's values, before values and flags. Of the session nothing is said but what an operation hands out
 pub record CardRuns (s : Session) (c : List Net) : Type 0 where
   pub settles : (u : List ℕ) → Vector (inputs_of c) u → (start : ℕ → Bool) × Rest c (given_to c u) start
-  pub rests : (u : List ℕ) → Vector (inputs_of c) u → (rest_of s u).answer ≡ Done 0
+  pub rests : (u : List ℕ) → Vector (inputs_of c) u → (rest_of s u).answer ≡ Ok 0
   pub flat : (u : List ℕ) → Vector (inputs_of c) u → (start : ℕ → Bool) → Rest c (given_to c u) start
       → (words befores flags : List ℕ) → Roomy (length c) words befores flags
       → let told = history_of (rest_of s u).session words befores flags in

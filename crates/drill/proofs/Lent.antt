@@ -7,7 +7,7 @@ use lib.ListN.{length, take, drop, replicate, length-replicate, replicate-append
 use lib.Seq.{length-take-le}
 use Rattle.std.proofs.lemmas.List.{take-replicate, drop-replicate}
 use Rattle.rule.specs.declared.Refusal.{Refusal}
-use Rattle.rule.specs.declared.Answer.TheVariants.{Refused}
+use Rattle.std.specs.Prelude.{Ok, Err}
 use Rattle.card.specs.declared.Session.{Session}
 use Rattle.step_records.specs.Records.{Answered, records_of}
 use Rattle.step_records.proofs.Listings.{records_refused}
@@ -28,7 +28,7 @@ pub parted : (n k : ℕ) → n ≤ k → lent_records k ≡ (lent_records n ++ l
 parted n k few = let whole : n + (k - n) ≡ k = omega arith in sym (replicate-append-replicate n (k - n) lent_record ∙ ap lent_records whole)
 
 -- a refusal leaves all of it as it was
-pub recorded_refused : (s : Session) (n : ℕ) (why : Refusal) → n ≤ 20000 → (recorded_in s n).answer ≡ Refused why → (recorded_in s n).room ≡ lent_records 20000
+pub recorded_refused : (s : Session) (n : ℕ) (why : Refusal) → n ≤ 20000 → (recorded_in s n).answer ≡ Err why → (recorded_in s n).room ≡ lent_records 20000
 recorded_refused s n why few e = ap (λ r. r ++ lent_records (20000 - n)) (records_refused s (lent_records n) why e).0 ∙ sym (parted n 20000 few)
 
 -- the list was put into the part that is lent

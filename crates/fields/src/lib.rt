@@ -43,7 +43,7 @@ pub fn gather<'a>(
         if count <= j {
             return known;
         }
-        known = gate::with_word(
+        known = gate::with_pin(
             ty,
             rule,
             known,

@@ -6,6 +6,10 @@ ghost use Rattle.word.specs.Word.{bit, differ, moved_up};
 ghost use Rattle.gate.specs.Inner.Pins.{with_pin};
 ghost use Rattle.gate.specs.Gate.{controls, inverts};
 
+mod lane;
+
+pub use lane::Lane;
+
 #[derive(Clone, Copy)]
 pub struct Rule {
     pub controlling: bool,
@@ -37,24 +41,10 @@ pub fn rule_of(ty: usize) -> Rule
     }
 }
 
-// Pin by pin: what the pins so far come to, with one more. One pin comes to its own value.
-pub fn with_bit(ty: usize, rule: Rule, known: bool, value: bool) -> bool
+// Pin by pin: what the pins so far come to, with one more, at every time. One pin comes to its own value.
+pub fn with_pin<V: Lane>(ty: usize, rule: Rule, known: V, pin: V) -> V
     requires { rule.controlling ≡ controls ty }
-    ensures { result ≡ with_pin ty known value }
-{
-    if 5 < ty {
-        return known ^ value;
-    }
-    if rule.controlling {
-        return known | value;
-    }
-    known & value
-}
-
-// The same at every time.
-pub fn with_word(ty: usize, rule: Rule, known: u64, pin: u64) -> u64
-    requires { rule.controlling ≡ controls ty }
-    ensures { (t : ℕ) → bit result t ≡ with_pin ty (bit known t) (bit pin t) }
+    ensures { (t : ℕ) → V.at result t ≡ with_pin ty (V.at known t) (V.at pin t) }
 {
     if 5 < ty {
         return known ^ pin;
@@ -65,23 +55,16 @@ pub fn with_word(ty: usize, rule: Rule, known: u64, pin: u64) -> u64
     known & pin
 }
 
-// A gate's value of what all its pins come to.
-pub fn gate_bit(rule: Rule, all: bool) -> bool
-    ensures { result ≡ differ all rule.inversion }
+// A gate's value of what all its pins come to, at every time.
+pub fn gate_value<V: Lane>(rule: Rule, all: V) -> V
+    ensures { (t : ℕ) → t < 64 → V.at result t ≡ differ (V.at all t) rule.inversion }
 {
-    all ^ rule.inversion
-}
-
-// The same at every time.
-pub fn gate_word(rule: Rule, all: u64) -> u64
-    ensures { (t : ℕ) → t < 64 → bit result t ≡ differ (bit all t) rule.inversion }
-{
-    all ^ word::spread(rule.inversion)
+    all ^ V::spread(rule.inversion)
 }
 
 // A gate's field of what all its pins come to: its word, moved up by one, with the before value in bit 0.
 pub fn field(rule: Rule, all: u64, before: bool) -> u64
     ensures { (t : ℕ) → t < 64 → bit result t ≡ moved_up before (λ u. differ (bit all u) rule.inversion) t }
 {
-    word::up(gate_word(rule, all), before)
+    word::up(gate_value(rule, all), before)
 }

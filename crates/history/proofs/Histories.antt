@@ -17,8 +17,8 @@ use Rattle.rule.specs.Flag.{flag_of}
 use Rattle.rule.specs.Numbers.{answer_number, answer_count}
 use Rattle.rule.specs.declared.Refusal.{Refusal}
 use Rattle.rule.specs.declared.Refusal.TheVariants.{NotReady, NoRoom}
-use Rattle.rule.specs.declared.Answer.{Answer}
-use Rattle.rule.specs.declared.Answer.TheVariants.{Done, Refused}
+use Rattle.rule.specs.Answers.{Answer}
+use Rattle.std.specs.Prelude.{Ok, Err}
 use Rattle.rule.proofs.Flags.{flag_cong}
 use Rattle.card.specs.declared.Session.{Session}
 use Rattle.card.specs.Session.{word_at, before_at}
@@ -35,7 +35,7 @@ unwritten words befores flags a = record { answer = a; words = words; befores = 
 module _ (s : Session) (words befores flags : List ℕ) where
   -- what history writes
   abbrev pub written : Told
-  written = record { answer = Done s.nets; words = filled (word_at s) s.nets words; befores = filled (before_byte s) s.nets befores; flags = filled (flag_at s) s.nets flags }
+  written = record { answer = Ok s.nets; words = filled (word_at s) s.nets words; befores = filled (before_byte s) s.nets befores; flags = filled (flag_at s) s.nets flags }
 
   -- "lent room too short"
   abbrev pub Short : Type 0
@@ -46,7 +46,7 @@ module _ (s : Session) (words befores flags : List ℕ) where
 
   -- its tests, one after another
   abbrev by_tests : Bool → Bool → Told
-  by_tests rested room = cond rested (cond room written (unwritten words befores flags (Refused NoRoom))) (unwritten words befores flags (Refused NotReady))
+  by_tests rested room = cond rested (cond room written (unwritten words befores flags (Err NoRoom))) (unwritten words befores flags (Err NotReady))
 
   abbrev room_test : Bool
   room_test = leb s.nets (length words) && (leb s.nets (length befores) && leb s.nets (length flags))
@@ -64,10 +64,10 @@ module _ (s : Session) (words befores flags : List ℕ) where
   roomy_passes l =
       and_make _ _ (le-leb s.nets (length words) l.for_words) (and_make _ _ (le-leb s.nets (length befores) l.for_befores) (le-leb s.nets (length flags) l.for_flags))
 
-  pub gives_12 : s.rested ≡ false → history_of s words befores flags ≡ unwritten words befores flags (Refused NotReady)
+  pub gives_12 : s.rested ≡ false → history_of s words befores flags ≡ unwritten words befores flags (Err NotReady)
   gives_12 e = by_them ∙ ap (λ b. by_tests b room_test) e
 
-  pub gives_18 : s.rested ≡ true → Short → history_of s words befores flags ≡ unwritten words befores flags (Refused NoRoom)
+  pub gives_18 : s.rested ≡ true → Short → history_of s words befores flags ≡ unwritten words befores flags (Err NoRoom)
   gives_18 e l = by_them ∙ ap₂ by_tests e (short_fails l)
 
   pub gives_0 : s.rested ≡ true → Room → history_of s words befores flags ≡ written
@@ -75,14 +75,14 @@ module _ (s : Session) (words befores flags : List ℕ) where
 
   -- slices that hold what history writes
   pub told : s.rested ≡ true → Room → (ws bs fs : List ℕ) → ws ≡ written.words → bs ≡ written.befores → fs ≡ written.flags
-      → record { answer = Done s.nets; words = ws; befores = bs; flags = fs } ≡ history_of s words befores flags
-  told e l ws bs fs ew eb ef = (λ i. record { answer = Done s.nets; words = ew i; befores = eb i; flags = ef i }) ∙ sym (gives_0 e l)
+      → record { answer = Ok s.nets; words = ws; befores = bs; flags = fs } ≡ history_of s words befores flags
+  told e l ws bs fs ew eb ef = (λ i. record { answer = Ok s.nets; words = ew i; befores = eb i; flags = ef i }) ∙ sym (gives_0 e l)
 
 -- Each number exactly when document 01 gives it: "History (words, before values, flags): 12, 18."
 
 pub data Ruling (s : Session) (words befores flags : List ℕ) : Told → Type 0 where
-  not_rested : s.rested ≡ false → Ruling s words befores flags (unwritten words befores flags (Refused NotReady))
-  too_short : s.rested ≡ true → Short s words befores flags → Ruling s words befores flags (unwritten words befores flags (Refused NoRoom))
+  not_rested : s.rested ≡ false → Ruling s words befores flags (unwritten words befores flags (Err NotReady))
+  too_short : s.rested ≡ true → Short s words befores flags → Ruling s words befores flags (unwritten words befores flags (Err NoRoom))
   done : s.rested ≡ true → Roomy s.nets words befores flags → Ruling s words befores flags (written s words befores flags)
 
 module _ (s : Session) (words befores flags : List ℕ) where
@@ -131,10 +131,10 @@ module _ (s : Session) (words befores flags : List ℕ) where
   history_0 = (λ q. subst Reason q (reason heard ruled), λ h. ap (λ x. answer_number x.answer) (gives_0 s words befores flags h.0 h.1))
 
   -- "Every refusal returns its number and count 0, and changes neither session nor lent memory."
-  pub history_refused : (r : Refusal) → heard.answer ≡ Refused r → heard ≡ unwritten words befores flags (Refused r)
+  pub history_refused : (r : Refusal) → heard.answer ≡ Err r → heard ≡ unwritten words befores flags (Err r)
   history_refused r e = go heard ruled e
     where
-      go : (x : Told) → Ruling s words befores flags x → x.answer ≡ Refused r → x ≡ unwritten words befores flags (Refused r)
+      go : (x : Told) → Ruling s words befores flags x → x.answer ≡ Err r → x ≡ unwritten words befores flags (Err r)
       go x (not_rested p) q = ap (unwritten words befores flags) q
       go x (too_short p l) q = ap (unwritten words befores flags) q
       go x (done p l) q = let z : ◌≡◌ {A = ℕ} 0 1 = cc in absurd (omega arith)

@@ -5,8 +5,8 @@ use Rattle.lists.specs.Filled.{filled}
 use Rattle.word.specs.Word.{bit, val}
 use Rattle.rule.specs.Flag.{flag_of}
 use Rattle.rule.specs.declared.Refusal.TheVariants.{NotReady, NoRoom}
-use Rattle.rule.specs.declared.Answer.{Answer}
-use Rattle.rule.specs.declared.Answer.TheVariants.{Done, Refused}
+use Rattle.rule.specs.Answers.{Answer}
+use Rattle.std.specs.Prelude.{Ok, Err}
 use Rattle.card.specs.declared.Session.{Session}
 use Rattle.card.specs.Session.{word_at, before_at}
 
@@ -37,10 +37,10 @@ history_of s words befores flags =
     cond s.rested
     (cond (leb s.nets (length words) && (leb s.nets (length befores) && leb s.nets (length flags)))
     (record {
-      answer = Done s.nets;
+      answer = Ok s.nets;
       words = filled (word_at s) s.nets words;
       befores = filled (before_byte s) s.nets befores;
       flags = filled (flag_at s) s.nets flags;
     })
-    (kept (Refused NoRoom)))
-    (kept (Refused NotReady))
+    (kept (Err NoRoom)))
+    (kept (Err NotReady))

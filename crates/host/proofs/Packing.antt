@@ -4,16 +4,16 @@ use mathlib.Core.Path.{◌≡◌, ap}
 use Prim.Native.Nat.{ℕ, ◌+◌, ◌*◌, ◌%◌, ◌≤◌}
 use native.Mathlib.Omega.{arith}
 use Rattle.rule.specs.declared.Refusal.{Refusal}
-use Rattle.rule.specs.declared.Answer.{Answer}
-use Rattle.rule.specs.declared.Answer.TheVariants.{Done, Refused}
+use Rattle.rule.specs.Answers.{Answer}
+use Rattle.std.specs.Prelude.{Ok, Err}
 use Rattle.rule.specs.Numbers.{number_of, answer_number, answer_count}
 use Rattle.host.specs.Calls.{packed}
 
-pub done_0 : (count : ℕ) → packed (Done count) % 256 ≡ 0
+pub done_0 : (count : ℕ) → packed (Ok count) % 256 ≡ 0
 unfolding packed
 done_0 count = omega arith
 
-pub refused_number : (why : Refusal) → packed (Refused why) ≡ number_of why
+pub refused_number : (why : Refusal) → packed (Err why) ≡ number_of why
 unfolding packed
 refused_number why = omega arith
 

@@ -7,8 +7,8 @@ use lib.ListN.{length}
 use borrow.Author.Tests.{lt-ltb, le-ltb}
 use Rattle.rule.specs.declared.Refusal.{Refusal}
 use Rattle.rule.specs.declared.Refusal.TheVariants.{NotReady, NoRoom}
-use Rattle.rule.specs.declared.Answer.{Answer}
-use Rattle.rule.specs.declared.Answer.TheVariants.{Done, Refused}
+use Rattle.rule.specs.Answers.{Answer}
+use Rattle.std.specs.Prelude.{Ok, Err}
 use Rattle.card.specs.declared.Session.{Session}
 use Rattle.operations.specs.declared.Engine.{Engine}
 use Rattle.host_bytes.specs.Layout.{session_length}
@@ -18,21 +18,21 @@ use Rattle.host.specs.Calls.{packed}
 use Rattle.host.specs.Vectors.{many_done, host_vectors}
 
 module _ (engine : Engine) (s : Session) (b vs room : List ℕ) where
-  pub done_refused : (a : Answer) (why : Refusal) (r : ℕ) → a ≡ Refused why → r ≡ packed a → record { answer = r; bytes = b; words = room } ≡ many_done engine s b vs room a
+  pub done_refused : (a : Answer) (why : Refusal) (r : ℕ) → a ≡ Err why → r ≡ packed a → record { answer = r; bytes = b; words = room } ≡ many_done engine s b vs room a
   done_refused a why r e q = ap (λ x. record { answer = x; bytes = b; words = room }) (q ∙ ap packed e) ∙ sym (ap (many_done engine s b vs room) e)
 
-  pub done_all : (a : Answer) (k r count : ℕ) (b' room' : List ℕ) → a ≡ Done k → count ≡ (many_by engine s vs s.inputs k room).count → r ≡ packed (Done count) → b' ≡ kept_many engine b vs s.inputs k
+  pub done_all : (a : Answer) (k r count : ℕ) (b' room' : List ℕ) → a ≡ Ok k → count ≡ (many_by engine s vs s.inputs k room).count → r ≡ packed (Ok count) → b' ≡ kept_many engine b vs s.inputs k
       → room' ≡ (many_by engine s vs s.inputs k room).words → record { answer = r; bytes = b'; words = room' } ≡ many_done engine s b vs room a
   done_all a k r count b' room' e n h p q =
-      (λ i. record { answer = (h ∙ ap (λ x. packed (Done x)) n) i; bytes = p i; words = q i }) ∙ sym (ap (many_done engine s b vs room) e)
+      (λ i. record { answer = (h ∙ ap (λ x. packed (Ok x)) n) i; bytes = p i; words = q i }) ∙ sym (ap (many_done engine s b vs room) e)
 
 module _ (engine : Engine) (b vs room : List ℕ) where
-  pub vectors_short : (r : ℕ) → length b < session_length → r ≡ packed (Refused NoRoom)
+  pub vectors_short : (r : ℕ) → length b < session_length → r ≡ packed (Err NoRoom)
       → record { answer = r; bytes = b; words = room } ≡ host_vectors engine b vs room
   unfolding host_vectors
   vectors_short r l q = rw lt-ltb (ap (λ x. record { answer = x; bytes = b; words = room }) q)
 
-  pub vectors_broken : (r : ℕ) → session_length ≤ length b → (made_again b).whole ≡ false → r ≡ packed (Refused NotReady)
+  pub vectors_broken : (r : ℕ) → session_length ≤ length b → (made_again b).whole ≡ false → r ≡ packed (Err NotReady)
       → record { answer = r; bytes = b; words = room } ≡ host_vectors engine b vs room
   unfolding host_vectors
   vectors_broken r l e q = rw (le-ltb, e) (ap (λ x. record { answer = x; bytes = b; words = room }) q)

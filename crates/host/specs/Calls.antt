@@ -1,8 +1,8 @@
 -- The host's calls: what each answers and leaves, for any bytes. Assumes nothing.
 use Rattle.std.specs.Prelude.{cond, List, ℕ, ◌+◌, ◌*◌, ◌%◌, ltb, length}
 use Rattle.rule.specs.declared.Refusal.TheVariants.{NotReady, NoRoom}
-use Rattle.rule.specs.declared.Answer.{Answer}
-use Rattle.rule.specs.declared.Answer.TheVariants.{Done, Refused}
+use Rattle.rule.specs.Answers.{Answer}
+use Rattle.std.specs.Prelude.{Ok, Err}
 use Rattle.rule.specs.Numbers.{answer_number, answer_count}
 use Rattle.history.specs.Told.{history_of}
 use Rattle.operations.specs.declared.Move.{Move}
@@ -21,16 +21,16 @@ pub record Hosted : Type 0 where
   pub bytes : List ℕ
 
 abbrev pub left_by : Move → Answer → List ℕ → List ℕ → Hosted
-left_by how (Refused why) b v = record { answer = packed (Refused why); bytes = b }
-left_by how (Done count) b v = record { answer = packed (Done count); bytes = kept_by how b v }
+left_by how (Err why) b v = record { answer = packed (Err why); bytes = b }
+left_by how (Ok count) b v = record { answer = packed (Ok count); bytes = kept_by how b v }
 
 -- "A host program in C or Rust calls the library for load, rest, vector and history": 18 for a slice that is too short ("lent room too short"), 12 for bytes
 -- that no call left ("no card"); then as the operation. "Every refusal returns its number and count 0, and changes neither session nor lent memory."
 unfoldable pub host_move : Move → List ℕ → List ℕ → Hosted
 host_move how b v =
     let m = made_again b in
-    cond (ltb (length b) session_length) (record { answer = packed (Refused NoRoom); bytes = b })
-    (cond m.whole (left_by how (operated how m.session v).answer b v) (record { answer = packed (Refused NotReady); bytes = b }))
+    cond (ltb (length b) session_length) (record { answer = packed (Err NoRoom); bytes = b })
+    (cond m.whole (left_by how (operated how m.session v).answer b v) (record { answer = packed (Err NotReady); bytes = b }))
 
 pub record Shown : Type 0 where
   pub answer : ℕ
@@ -43,5 +43,5 @@ host_history b words befores flags =
     let m = made_again b in
     let h = history_of m.session words befores flags in
     let kept : Answer → Shown = λ a. record { answer = packed a; words = words; befores = befores; flags = flags } in
-    cond (ltb (length b) session_length) (kept (Refused NoRoom))
-    (cond m.whole (record { answer = packed h.answer; words = h.words; befores = h.befores; flags = h.flags }) (kept (Refused NotReady)))
+    cond (ltb (length b) session_length) (kept (Err NoRoom))
+    (cond m.whole (record { answer = packed h.answer; words = h.words; befores = h.befores; flags = h.flags }) (kept (Err NotReady)))

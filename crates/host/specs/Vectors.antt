@@ -1,8 +1,8 @@
 -- The calls that run many vectors: what they answer and leave, for any bytes. Assumes nothing.
 use Rattle.std.specs.Prelude.{cond, List, ℕ, ltb, length}
 use Rattle.rule.specs.declared.Refusal.TheVariants.{NotReady, NoRoom}
-use Rattle.rule.specs.declared.Answer.{Answer}
-use Rattle.rule.specs.declared.Answer.TheVariants.{Done, Refused}
+use Rattle.rule.specs.Answers.{Answer}
+use Rattle.std.specs.Prelude.{Ok, Err}
 use Rattle.card.specs.declared.Session.{Session}
 use Rattle.operations.specs.declared.Engine.{Engine}
 use Rattle.host_bytes.specs.Layout.{session_length}
@@ -17,14 +17,14 @@ pub record ManyShown : Type 0 where
 
 -- all of them, or none
 abbrev pub many_done : Engine → Session → List ℕ → List ℕ → List ℕ → Answer → ManyShown
-many_done engine s b vs room (Refused why) = record { answer = packed (Refused why); bytes = b; words = room }
-many_done engine s b vs room (Done k) =
+many_done engine s b vs room (Err why) = record { answer = packed (Err why); bytes = b; words = room }
+many_done engine s b vs room (Ok k) =
     let ran = many_by engine s vs s.inputs k room in
-    record { answer = packed (Done ran.count); bytes = kept_many engine b vs s.inputs k; words = ran.words }
+    record { answer = packed (Ok ran.count); bytes = kept_many engine b vs s.inputs k; words = ran.words }
 
 unfoldable pub host_vectors : Engine → List ℕ → List ℕ → List ℕ → ManyShown
 host_vectors engine b vs room =
     let m = made_again b in
     let kept : Answer → ManyShown = λ a. record { answer = packed a; bytes = b; words = room } in
-    cond (ltb (length b) session_length) (kept (Refused NoRoom))
-    (cond m.whole (many_done engine m.session b vs room (many_judged m.session vs (length room))) (kept (Refused NotReady)))
+    cond (ltb (length b) session_length) (kept (Err NoRoom))
+    (cond m.whole (many_done engine m.session b vs room (many_judged m.session vs (length room))) (kept (Err NotReady)))

@@ -11,18 +11,18 @@ use lib.ListN.{length, get_or}
 use Rattle.lists.specs.Entries.{◌∈◌}
 use Rattle.lists.proofs.Places.{clear_make}
 use Rattle.rule.specs.declared.Refusal.TheVariants.{NotReady, NoRoom}
-use Rattle.rule.specs.declared.Answer.{Answer}
-use Rattle.rule.specs.declared.Answer.TheVariants.{Done, Refused}
+use Rattle.rule.specs.Answers.{Answer}
+use Rattle.std.specs.Prelude.{Ok, Err}
 use Rattle.rule.specs.Numbers.{answer_number, answer_count}
 use Rattle.inputs.specs.Inputs.{given}
 use Rattle.card_records.specs.Written.{Bytes}
 use Rattle.card.specs.declared.Session.{Session}
-use Rattle.card.specs.declared.Loaded.{Loaded}
+use Rattle.card.specs.Loaded.{Loaded}
 use Rattle.card.specs.Session.{none}
 use Rattle.card.specs.Load.{load_of}
 use Rattle.card.proofs.Kept.{nets_are, card_fits, card_steps}
 use Rattle.card.proofs.Verdicts.{ruled as load-ruled, Ruling as LoadRuling, refuses as load_refuses, takes as load_takes}
-use Rattle.session.specs.declared.Moved.{Moved}
+use Rattle.session.specs.Moved.{Moved}
 use Rattle.session.specs.Good.{Good}
 use Rattle.session.specs.Moves.{moved_by, rested_by, rest_of}
 use Rattle.session.proofs.Refusals.{Ruling, refuses, takes, rest_ruled}
@@ -54,17 +54,17 @@ unfolding host_move
 refused_kept how b v n = go (ltb (length b) session_length) (made_again b).whole (operated how (made_again b).session v).answer n
   where
     short : Hosted
-    short = record { answer = packed (Refused NoRoom); bytes = b }
+    short = record { answer = packed (Err NoRoom); bytes = b }
 
     unready : Hosted
-    unready = record { answer = packed (Refused NotReady); bytes = b }
+    unready = record { answer = packed (Err NotReady); bytes = b }
 
     go : (x y : Bool) (a : Answer) → ¬ ((cond x short (cond y (left_by how a b v) unready)).answer % 256 ≡ 0)
         → (cond x short (cond y (left_by how a b v) unready)).bytes ≡ b
     go true y a n = refl
     go false false a n = refl
-    go false true (Refused why) n = refl
-    go false true (Done count) n = absurd (n (done_0 count))
+    go false true (Err why) n = refl
+    go false true (Ok count) n = absurd (n (done_0 count))
 
 -- and a refused history leaves the three slices
 pub history_kept : (b words befores flags : List ℕ) → ¬ ((host_history b words befores flags).answer % 256 ≡ 0)
@@ -79,16 +79,16 @@ history_kept b words befores flags bad = go (ltb (length b) session_length) (mad
     shows h = record { answer = packed h.answer; words = h.words; befores = h.befores; flags = h.flags }
 
     refused : (h : Told) → history_of (made_again b).session words befores flags ≡ h → (a : Answer) → h.answer ≡ a → ¬ (packed a % 256 ≡ 0) → (h.words ≡ words) × (h.befores ≡ befores) × (h.flags ≡ flags)
-    refused h q (Refused why) e x =
+    refused h q (Err why) e x =
         let same = sym q ∙ history_refused (made_again b).session words befores flags why (ap (λ k. k.answer) q ∙ e) in
         (ap (λ k. k.words) same, ap (λ k. k.befores) same, ap (λ k. k.flags) same)
-    refused h q (Done count) e x = absurd (x (done_0 count))
+    refused h q (Ok count) e x = absurd (x (done_0 count))
 
     go : (x y : Bool) (h : Told) → history_of (made_again b).session words befores flags ≡ h
-        → ¬ ((cond x (kept (Refused NoRoom)) (cond y (shows h) (kept (Refused NotReady)))).answer % 256 ≡ 0)
-        → ((cond x (kept (Refused NoRoom)) (cond y (shows h) (kept (Refused NotReady)))).words ≡ words)
-        × ((cond x (kept (Refused NoRoom)) (cond y (shows h) (kept (Refused NotReady)))).befores ≡ befores)
-        × ((cond x (kept (Refused NoRoom)) (cond y (shows h) (kept (Refused NotReady)))).flags ≡ flags)
+        → ¬ ((cond x (kept (Err NoRoom)) (cond y (shows h) (kept (Err NotReady)))).answer % 256 ≡ 0)
+        → ((cond x (kept (Err NoRoom)) (cond y (shows h) (kept (Err NotReady)))).words ≡ words)
+        × ((cond x (kept (Err NoRoom)) (cond y (shows h) (kept (Err NotReady)))).befores ≡ befores)
+        × ((cond x (kept (Err NoRoom)) (cond y (shows h) (kept (Err NotReady)))).flags ≡ flags)
     go true y h q n = (refl, refl, refl)
     go false false h q n = (refl, refl, refl)
     go false true h q n = refused h q h.answer refl n
@@ -109,8 +109,8 @@ module _ (b : List ℕ) (s : Session) (h : Holding b s) where
         sym (move_left how b v h.room (ap (λ m. m.whole) h.made)) ∙ ap (λ m. left_by how (operated how m.session v).answer b v) h.made
 
     left_answer : (how : Move) (a : Answer) → (left_by how a b v).answer ≡ packed a
-    left_answer how (Refused why) = refl
-    left_answer how (Done count) = refl
+    left_answer how (Err why) = refl
+    left_answer how (Ok count) = refl
 
     -- what is left of the bytes holds the session that was left
     abbrev Follows : Move → Moved → Type 0
@@ -216,10 +216,10 @@ module _ (s : Session) (g : Good s) (words befores flags : List ℕ) where
       few e = let h = g.card (g.rest e).0 in omega (arith, nets_are s h, (card_fits s h).fits.few)
 
       shown : List ℕ → List ℕ → List ℕ → Told
-      shown p q r = record { answer = Done s.nets; words = p; befores = q; flags = r }
+      shown p q r = record { answer = Ok s.nets; words = p; befores = q; flags = r }
 
       go : (x : Bool) → s.rested ≡ x → (y : Bool) (p q r : List ℕ)
-          → answer_count (cond x (cond y (shown p q r) (kept (Refused NoRoom))) (kept (Refused NotReady))).answer ≤ 4096
+          → answer_count (cond x (cond y (shown p q r) (kept (Err NoRoom))) (kept (Err NotReady))).answer ≤ 4096
       go false e y p q r = lit≤ tt
       go true e false p q r = lit≤ tt
       go true e true p q r = few e

@@ -11,19 +11,19 @@ use borrow.Author.Tests.{eqb-true, ltb-false}
 use Rattle.lists.specs.Places.{part, clear}
 use Rattle.lists.proofs.Bools.{yes_or_no}
 use Rattle.rule.specs.Net.{Net}
-use Rattle.rule.specs.declared.Answer.TheVariants.{Done}
+use Rattle.std.specs.Prelude.{Ok, Err}
 use Rattle.inputs.specs.Inputs.{given}
 use Rattle.inputs.specs.Allowed.{Vector}
 use Rattle.card_records.specs.Bytes.{u16_at}
 use Rattle.card_records.specs.Written.{Bytes, card_bytes}
 use Rattle.card.specs.declared.Session.{Session}
-use Rattle.card.specs.declared.Loaded.{Loaded}
+use Rattle.card.specs.Loaded.{Loaded}
 use Rattle.card.specs.Session.{none, session_of}
 use Rattle.card.specs.Load.{load_of, taken}
 use Rattle.card.specs.Allowed.{Accepted}
 use Rattle.card.proofs.Sessions.{taken_loaded}
 use Rattle.card.proofs.Verdicts.{load_takes, ruled as load-ruled, Ruling as LoadRuling, refuses as load_refuses, takes as load-allows}
-use Rattle.session.specs.declared.Moved.{Moved}
+use Rattle.session.specs.Moved.{Moved}
 use Rattle.session.specs.Good.{Good}
 use Rattle.session.specs.Moves.{moved_by, rested_by, rest_of}
 use Rattle.session.proofs.Kept.{taken_good, rested_good}
@@ -74,7 +74,7 @@ pub data Kept (b : List ℕ) : Session → Type 0 where
 -- Of a card just loaded
 
 -- it rests by a vector, and keeps all else
-pub rest_taken : (c : List Net) (v : List ℕ) → Vector (inputs c) v → rest_of (session_of c) v ≡ record { answer = Done 0; session = at_rest c v }
+pub rest_taken : (c : List Net) (v : List ℕ) → Vector (inputs c) v → rest_of (session_of c) v ≡ record { answer = Ok 0; session = at_rest c v }
 rest_taken c v w = rest_takes (session_of c) v (taken_loaded c) w
 
 pub rest_same : (c : List Net) (v : List ℕ) → SameCard (session_of c) true (at_rest c v)
@@ -95,10 +95,10 @@ pub both_keeps : (c : List Net) (v w : List ℕ) → SameCard (session_of c) tru
 both_keeps c v w = moved_same (session_of c) true (at_rest c v) (rest_same c v) (values c w)
 
 pub both_taken : (e : Engine) (c : List Net) (v w : List ℕ) → Accepted c → Vector (inputs c) w
-    → vector_by e (at_rest c v) w ≡ record { answer = Done (count_by e (at_rest c v)); session = after_both c v w }
+    → vector_by e (at_rest c v) w ≡ record { answer = Ok (count_by e (at_rest c v)); session = after_both c v w }
 both_taken e c v w a h =
     by_takes e (at_rest c v) (rest_good c v a) (rest_same c v).rests w (rest_fits c v w h)
-    ∙ ap (λ s. record { answer = Done (count_by e (at_rest c v)); session = s }) (both_same c v w)
+    ∙ ap (λ s. record { answer = Ok (count_by e (at_rest c v)); session = s }) (both_same c v w)
 
 -- a card that a vector moved is some card
 mark_some : (e : Engine) → ¬ (mark_of e ≡ 0)
@@ -127,14 +127,14 @@ module _ (b : List ℕ) (h : Bytes b) where
       let t = rest_taken c v w in
       by_card c s k (λ o. let x = sym z ∙ o in omega arith)
       (sym (card_2 b (session_of c) z) ∙ sym (rested_is b (session_of c) f) ∙ ap made_by t
-      ∙ sym (by_done (record { answer = Done 0; session = s }) 0 refl))
+      ∙ sym (by_done (record { answer = Ok 0; session = s }) 0 refl))
   closed s (keeps_moved e c k z f w u) =
       let o = part b older_at (inputs c) in
       let v = part b last_at (inputs c) in
       let count = count_by e (at_rest c o) in
       by_card c s k (λ n. mark_some e (sym z ∙ n))
-      (sym (card_moved b (session_of c) e z) ∙ sym (moved_is b (session_of c) e f (record { answer = Done 0; session = at_rest c o }) (sym (rest_taken c o w)) 0 refl)
-      ∙ ap made_by (both_taken e c o v k.accepted u) ∙ sym (by_done (record { answer = Done count; session = s }) count refl))
+      (sym (card_moved b (session_of c) e z) ∙ sym (moved_is b (session_of c) e f (record { answer = Ok 0; session = at_rest c o }) (sym (rest_taken c o w)) 0 refl)
+      ∙ ap made_by (both_taken e c o v k.accepted u) ∙ sym (by_done (record { answer = Ok count; session = s }) count refl))
 
   -- Bytes that hold a session say so
 

@@ -13,8 +13,8 @@ use Rattle.lists.specs.Places.{part}
 use Rattle.lists.proofs.Listed.{listed_none, listed_more}
 use Rattle.lists.proofs.Places.{turn_fits}
 use Rattle.rule.specs.declared.Refusal.TheVariants.{NotReady, NoRoom}
-use Rattle.rule.specs.declared.Answer.{Answer}
-use Rattle.rule.specs.declared.Answer.TheVariants.{Done, Refused}
+use Rattle.rule.specs.Answers.{Answer}
+use Rattle.std.specs.Prelude.{Ok, Err}
 use Rattle.inputs.specs.Inputs.{byte_fits}
 use Rattle.card_records.specs.Written.{Bytes}
 use Rattle.card.specs.declared.Session.{Session}
@@ -138,13 +138,13 @@ many_refused engine b vs room x = go (ltb (length b) session_length) (made_again
     done : Answer → ManyShown
     done a = many_done engine (made_again b).session b vs room a
 
-    go : (x y : Bool) (a : Answer) → ¬ ((cond x (kept (Refused NoRoom)) (cond y (done a) (kept (Refused NotReady)))).answer % 256 ≡ 0)
-        → ((cond x (kept (Refused NoRoom)) (cond y (done a) (kept (Refused NotReady)))).bytes ≡ b)
-        × ((cond x (kept (Refused NoRoom)) (cond y (done a) (kept (Refused NotReady)))).words ≡ room)
+    go : (x y : Bool) (a : Answer) → ¬ ((cond x (kept (Err NoRoom)) (cond y (done a) (kept (Err NotReady)))).answer % 256 ≡ 0)
+        → ((cond x (kept (Err NoRoom)) (cond y (done a) (kept (Err NotReady)))).bytes ≡ b)
+        × ((cond x (kept (Err NoRoom)) (cond y (done a) (kept (Err NotReady)))).words ≡ room)
     go true y a x = (refl, refl)
     go false false a x = (refl, refl)
-    go false true (Refused why) x = (refl, refl)
-    go false true (Done j) x = absurd (x (done_0 (many_by engine (made_again b).session vs (made_again b).session.inputs j room).count))
+    go false true (Err why) x = (refl, refl)
+    go false true (Ok j) x = absurd (x (done_0 (many_by engine (made_again b).session vs (made_again b).session.inputs j room).count))
 
 -- a history shows the words of the session that the bytes hold
 words_shown : (b : List ℕ) (s : Session) → Holding b s → s.rested ≡ true → (words befores flags : List ℕ) → Roomy s.nets words befores flags
@@ -155,13 +155,13 @@ words_shown b s h r words befores flags fits n l =
 
 -- The call that runs many vectors
 
-vectors_are : (engine : Engine) (b vs room : List ℕ) (s : Session) → Holding b s → (k : ℕ) → many_judged s vs (length room) ≡ Done k
-    → host_vectors engine b vs room ≡ many_done engine s b vs room (Done k)
+vectors_are : (engine : Engine) (b vs room : List ℕ) (s : Session) → Holding b s → (k : ℕ) → many_judged s vs (length room) ≡ Ok k
+    → host_vectors engine b vs room ≡ many_done engine s b vs room (Ok k)
 vectors_are engine b vs room s h k e =
     sym (vectors_done engine b vs room h.room (ap (λ m. m.whole) h.made))
     ∙ ap (λ m. many_done engine m.session b vs room (many_judged m.session vs (length room))) h.made ∙ ap (many_done engine s b vs room) e
 
-module _ (engine : Engine) (b vs room : List ℕ) (s : Session) (h : Holding b s) (k : ℕ) (e : many_judged s vs (length room) ≡ Done k) where
+module _ (engine : Engine) (b vs room : List ℕ) (s : Session) (h : Holding b s) (k : ℕ) (e : many_judged s vs (length room) ≡ Ok k) where
   abbrev shown : ManyShown
   shown = host_vectors engine b vs room
 
@@ -174,7 +174,7 @@ module _ (engine : Engine) (b vs room : List ℕ) (s : Session) (h : Holding b s
   few : k * s.inputs ≤ length vs
   few = (le-div_iff_mul-le (inputs_some s (good.card (good.rest asks.0).0)).0).0 (le_of_eq asks.2)
 
-  is_done : shown ≡ many_done engine s b vs room (Done k)
+  is_done : shown ≡ many_done engine s b vs room (Ok k)
   is_done = vectors_are engine b vs room s h k e
 
   words_are : shown.words ≡ (many_by engine s vs s.inputs k room).words

@@ -17,7 +17,7 @@ use Rattle.lists.proofs.Places.{clear_at, length_area, area_in, area_out, part_l
 use Rattle.lists.proofs.Listed.{length_listed}
 use Rattle.rule.specs.Net.{Net}
 use Rattle.rule.specs.declared.Refusal.TheVariants.{NotReady}
-use Rattle.rule.specs.declared.Answer.TheVariants.{Done, Refused}
+use Rattle.std.specs.Prelude.{Ok, Err}
 use Rattle.inputs.specs.Allowed.{Vector}
 use Rattle.card_records.specs.Bytes.{u16_at}
 use Rattle.card_records.specs.Written.{Bytes}
@@ -105,7 +105,7 @@ module _ (b : List ℕ) (long : session_length ≤ length b) (ok : Bytes b) wher
 -- A call that is done leaves what is kept, and that holds the session that the operation left
 
 call_done : (how : Move) (b v : List ℕ) (s : Session) → Holding b s → Bytes v → (count : ℕ) (next : Session)
-    → operated how s v ≡ record { answer = Done count; session = next } → ((host_move how b v).bytes ≡ kept_by how b v) × Holding (kept_by how b v) next
+    → operated how s v ≡ record { answer = Ok count; session = next } → ((host_move how b v).bytes ≡ kept_by how b v) × Holding (kept_by how b v) next
 call_done how b v s h g count next e =
     let kept : (host_move how b v).bytes ≡ kept_by how b v =
     ap (λ x. x.bytes) (move_is b s h v g how) ∙ ap (λ m. (left_by how m.answer b v).bytes) e in
@@ -283,7 +283,7 @@ left_made b l =
 pub unleft_12 : (b : List ℕ) → session_length ≤ length b → Bytes b → ¬ Left b → Unready b
 unleft_12 b long ok n = go (yes_or_no (made_again b).whole)
   where
-    is_12 : 12 ≡ packed (Refused NotReady)
+    is_12 : 12 ≡ packed (Err NotReady)
     is_12 = sym (refused_number NotReady)
 
     go : ((made_again b).whole ≡ true) ⊎ ((made_again b).whole ≡ false) → Unready b

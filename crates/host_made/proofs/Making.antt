@@ -8,8 +8,8 @@ use lib.ListN.{get_or}
 use borrow.Author.Tests.{ne_eqb, lt-ltb, le-ltb}
 use Rattle.lists.specs.Places.{part, clear}
 use Rattle.rule.specs.declared.Refusal.{Refusal}
-use Rattle.rule.specs.declared.Answer.{Answer}
-use Rattle.rule.specs.declared.Answer.TheVariants.{Done, Refused}
+use Rattle.rule.specs.Answers.{Answer}
+use Rattle.std.specs.Prelude.{Ok, Err}
 use Rattle.card_records.specs.Bytes.{u16_at}
 use Rattle.card_records.specs.Written.{Bytes}
 use Rattle.card.specs.declared.Session.{Session}
@@ -18,7 +18,7 @@ use Rattle.card.specs.Load.{load_of}
 use Rattle.card.proofs.Sessions.{inputs_few}
 use Rattle.card.proofs.Verdicts.{load_taken}
 use Rattle.session.specs.Good.{Good}
-use Rattle.session.specs.declared.Moved.{Moved}
+use Rattle.session.specs.Moved.{Moved}
 use Rattle.session.specs.Moves.{rest_of}
 use Rattle.session.proofs.Kept.{none_good, load_good, rest_good}
 use Rattle.operations.specs.declared.Engine.{Engine}
@@ -31,11 +31,11 @@ use Rattle.host_bytes.proofs.Bytes.{part_bytes}
 use Rattle.host_made.specs.declared.Made.{Made}
 use Rattle.host_made.specs.Made.{broken, when_done, held, made_by, fitting, made_plain, made_rested, made_moved, made_card, made_loaded, made_again}
 
-pub by_refused : (m : Moved) (why : Refusal) → m.answer ≡ Refused why → broken ≡ made_by m
+pub by_refused : (m : Moved) (why : Refusal) → m.answer ≡ Err why → broken ≡ made_by m
 unfolding made_by
 by_refused m why e = rw e
 
-pub by_done : (m : Moved) (count : ℕ) → m.answer ≡ Done count → held m.session ≡ made_by m
+pub by_done : (m : Moved) (count : ℕ) → m.answer ≡ Ok count → held m.session ≡ made_by m
 unfolding made_by
 by_done m count e = rw e
 
@@ -62,11 +62,11 @@ module _ (b : List ℕ) (s : Session) where
     moved_not e = rw e
 
     pub moved_refused : fitting b s.inputs s.inputs ≡ true → (r : Moved) → r ≡ rest_of s (part b older_at s.inputs)
-        → (why : Refusal) → r.answer ≡ Refused why → broken ≡ made_moved engine b s
+        → (why : Refusal) → r.answer ≡ Err why → broken ≡ made_moved engine b s
     unfolding made_moved
     moved_refused e r q why w = rw (e, ← q, w)
 
-    pub moved_is : fitting b s.inputs s.inputs ≡ true → (r : Moved) → r ≡ rest_of s (part b older_at s.inputs) → (count : ℕ) → r.answer ≡ Done count
+    pub moved_is : fitting b s.inputs s.inputs ≡ true → (r : Moved) → r ≡ rest_of s (part b older_at s.inputs) → (count : ℕ) → r.answer ≡ Ok count
         → made_by (vector_by engine r.session (part b last_at s.inputs)) ≡ made_moved engine b s
     unfolding made_moved
     moved_is e r q count w = rw (e, ← q, w)
@@ -90,11 +90,11 @@ module _ (b : List ℕ) (s : Session) where
 
 -- Loading again
 
-pub loaded_refused : (b : List ℕ) (len : ℕ) (why : Refusal) → (load_of none (part b card_at len)).answer ≡ Refused why → broken ≡ made_loaded b len
+pub loaded_refused : (b : List ℕ) (len : ℕ) (why : Refusal) → (load_of none (part b card_at len)).answer ≡ Err why → broken ≡ made_loaded b len
 unfolding made_loaded
 loaded_refused b len why e = rw e
 
-pub loaded_is : (b : List ℕ) (len count : ℕ) → (load_of none (part b card_at len)).answer ≡ Done count
+pub loaded_is : (b : List ℕ) (len count : ℕ) → (load_of none (part b card_at len)).answer ≡ Ok count
     → made_card b (load_of none (part b card_at len)).session ≡ made_loaded b len
 unfolding made_loaded
 loaded_is b len count e = rw e
@@ -123,8 +123,8 @@ unfolding broken
 broken_good = none_good
 
 done_good : (a : Answer) (m : Made) → Good m.session → Good (when_done a m).session
-done_good (Done count) m g = g
-done_good (Refused why) m g = broken_good
+done_good (Ok count) m g = g
+done_good (Err why) m g = broken_good
 
 if_good : (t : Bool) (m : Made) → Good m.session → Good (cond t m broken).session
 if_good true m g = g
@@ -183,7 +183,7 @@ again_good b h = go (eqb (get_or b 0 0) 0) (ltb longest_card (u16_at b 1)) (clea
     go false false false = broken_good
 
 -- a card that was taken has at most 256 inputs
-pub few_inputs : (s : List ℕ) → Bytes s → (count : ℕ) → (load_of none s).answer ≡ Done count → (load_of none s).session.inputs ≤ 256
+pub few_inputs : (s : List ℕ) → Bytes s → (count : ℕ) → (load_of none s).answer ≡ Ok count → (load_of none s).session.inputs ≤ 256
 few_inputs s h count e =
     let t = load_taken none s h count e in
     subst (λ x. x.session.inputs ≤ 256) (sym t.1) (inputs_few t.0.card t.0.accepted)

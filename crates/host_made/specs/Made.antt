@@ -1,13 +1,13 @@
 -- The session that lent bytes hold: made again from the card's own bytes and the last two vectors. Assumes nothing.
 use Rattle.std.specs.Prelude.{Bool, true, false, cond, ◌&&◌, List, ℕ, ◌+◌, eqb, ltb, get_or}
 use Rattle.lists.specs.Places.{part, clear}
-use Rattle.rule.specs.declared.Answer.{Answer}
-use Rattle.rule.specs.declared.Answer.TheVariants.{Done, Refused}
+use Rattle.rule.specs.Answers.{Answer}
+use Rattle.std.specs.Prelude.{Ok, Err}
 use Rattle.card_records.specs.Bytes.{u16_at}
 use Rattle.card.specs.declared.Session.{Session}
 use Rattle.card.specs.Session.{none}
 use Rattle.card.specs.Load.{load_of}
-use Rattle.session.specs.declared.Moved.{Moved}
+use Rattle.session.specs.Moved.{Moved}
 use Rattle.session.specs.Moves.{rest_of}
 use Rattle.operations.specs.declared.Engine.{Engine}
 use Rattle.operations.specs.declared.Engine.TheVariants.{Fields, Steps}
@@ -21,8 +21,8 @@ broken = record { whole = false; session = none }
 
 -- what is made of a session that an operation left, if it was done
 abbrev pub when_done : Answer → Made → Made
-when_done (Done count) m = m
-when_done (Refused why) m = broken
+when_done (Ok count) m = m
+when_done (Err why) m = broken
 
 abbrev pub held : Session → Made
 held s = record { whole = true; session = s }

@@ -18,7 +18,7 @@ use Rattle.lists.proofs.Places.{turn_next, turn_fits, place_fits, place_part, le
 use Rattle.rule.specs.Steps.{step_list}
 use Rattle.rule.specs.Numbers.{answer_count}
 use Rattle.rule.specs.declared.Refusal.TheVariants.{NotReady, VectorLength, VectorByte, NoRoom}
-use Rattle.rule.specs.declared.Answer.TheVariants.{Done, Refused}
+use Rattle.std.specs.Prelude.{Ok, Err}
 use Rattle.inputs.specs.Allowed.{byte_limit, Vector}
 use Rattle.inputs.specs.Inputs.{byte_fits, given}
 use Rattle.fields.specs.Inner.Fields.{advanced}
@@ -112,7 +112,7 @@ module _ (engine : Engine) (s : Session) (g : Good s) (r : s.rested ≡ true) (v
 
   -- a session so left takes a vector that fits
   left_takes : (z : Session) → Left z → (v : List ℕ) → Vector s.inputs v
-      → vector_by engine z v ≡ record { answer = Done (count_by engine z); session = moved_by z (given z.kinds v) }
+      → vector_by engine z v ≡ record { answer = Ok (count_by engine z); session = moved_by z (given z.kinds v) }
   left_takes z h v w = by_takes engine z h.good h.same.rests v (subst (λ x. Vector x.inputs v) (sym h.same.card) w)
 
   next_left : (z : Session) → Left z → (v : List ℕ) → Vector s.inputs v → Left (vector_by engine z v).session
@@ -155,10 +155,10 @@ module _ (engine : Engine) (s : Session) (g : Good s) (r : s.rested ≡ true) (v
       record { same = same; card = h.0; rest = h.1; vector = subst (λ x. Vector x.inputs (bytes j)) (sym same.card) (many_vector vs s.inputs j fits l) }
 
   -- each vector is done, with the count that the card has by the engine
-  next_count : (j : ℕ) → j * s.inputs + s.inputs ≤ length vs → (vector_by engine (left j) (bytes j)).answer ≡ Done (count_by engine s)
+  next_count : (j : ℕ) → j * s.inputs + s.inputs ≤ length vs → (vector_by engine (left j) (bytes j)).answer ≡ Ok (count_by engine s)
   next_count j l =
       let h = many_left j (omega (arith, l)) in
-      ap (λ m. m.answer) (left_takes (left j) h (bytes j) (many_vector vs s.inputs j fits l)) ∙ ap Done (by engine h)
+      ap (λ m. m.answer) (left_takes (left j) h (bytes j) (many_vector vs s.inputs j fits l)) ∙ ap Ok (by engine h)
     where
       by : (e : Engine) → Left (left j) → count_by e (left j) ≡ count_by e s
       by Fields h = refl
@@ -169,9 +169,9 @@ module _ (engine : Engine) (s : Session) (g : Good s) (r : s.rested ≡ true) (v
   ran_count k l = ap answer_count (next_count k (next_fits k l))
 
   -- so the count of many is that of every one of them
-  pub each_count : (k j : ℕ) → j < k → k * s.inputs ≤ length vs → (vector_by engine (left j) (bytes j)).answer ≡ Done (many_by engine s vs s.inputs k room).count
+  pub each_count : (k j : ℕ) → j < k → k * s.inputs ≤ length vs → (vector_by engine (left j) (bytes j)).answer ≡ Ok (many_by engine s vs s.inputs k room).count
   each_count zero j b l = absurd (omega arith)
-  each_count (suc k) j b l = next_count j (turn_fits j (suc k) s.inputs (length vs) b l) ∙ ap Done (sym (ran_count k l))
+  each_count (suc k) j b l = next_count j (turn_fits j (suc k) s.inputs (length vs) b l) ∙ ap Ok (sym (ran_count k l))
 
   -- by either engine the same sessions and words
   pub many_same : (k : ℕ) → k * s.inputs ≤ length vs
@@ -247,37 +247,37 @@ module _ (s : Session) (vs : List ℕ) (room : ℕ) where
   abbrev count : ℕ
   count = length vs / s.inputs
 
-  pub many_12 : s.rested ≡ false → Refused NotReady ≡ many_judged s vs room
+  pub many_12 : s.rested ≡ false → Err NotReady ≡ many_judged s vs room
   unfolding many_judged
   many_12 e = rw e
 
-  pub many_10 : s.rested ≡ true → ¬ (length vs % s.inputs ≡ 0) → Refused VectorLength ≡ many_judged s vs room
+  pub many_10 : s.rested ≡ true → ¬ (length vs % s.inputs ≡ 0) → Err VectorLength ≡ many_judged s vs room
   unfolding many_judged
   many_10 e n = rw (e, ne_eqb (length vs % s.inputs) 0 n)
 
-  pub many_11 : s.rested ≡ true → length vs % s.inputs ≡ 0 → every byte_fits vs ≡ false → Refused VectorByte ≡ many_judged s vs room
+  pub many_11 : s.rested ≡ true → length vs % s.inputs ≡ 0 → every byte_fits vs ≡ false → Err VectorByte ≡ many_judged s vs room
   unfolding many_judged
   many_11 e z f = rw (e, eq-eqb (length vs % s.inputs) 0 z, f)
 
-  pub many_18 : s.rested ≡ true → length vs % s.inputs ≡ 0 → every byte_fits vs ≡ true → 0 < s.nets → room / s.nets < count → Refused NoRoom ≡ many_judged s vs room
+  pub many_18 : s.rested ≡ true → length vs % s.inputs ≡ 0 → every byte_fits vs ≡ true → 0 < s.nets → room / s.nets < count → Err NoRoom ≡ many_judged s vs room
   unfolding many_judged
   many_18 e z f p l =
       let much : room < count * s.nets = (div-lt_iff_lt-mul p).0 l in
       rw (e, eq-eqb (length vs % s.inputs) 0 z, f, lt-leb (count * s.nets) room much)
 
-  pub many_0 : s.rested ≡ true → length vs % s.inputs ≡ 0 → every byte_fits vs ≡ true → 0 < s.nets → count ≤ room / s.nets → Done count ≡ many_judged s vs room
+  pub many_0 : s.rested ≡ true → length vs % s.inputs ≡ 0 → every byte_fits vs ≡ true → 0 < s.nets → count ≤ room / s.nets → Ok count ≡ many_judged s vs room
   unfolding many_judged
   many_0 e z f p l =
       let fits : count * s.nets ≤ room = (le-div_iff_mul-le p).0 l in
       rw (e, eq-eqb (length vs % s.inputs) 0 z, f, le-leb (count * s.nets) room fits)
 
   -- what a judgement that is done says
-  pub many_asks : (k : ℕ) → many_judged s vs room ≡ Done k → (s.rested ≡ true) × (every byte_fits vs ≡ true) × (k ≡ count) × (k * s.nets ≤ room)
+  pub many_asks : (k : ℕ) → many_judged s vs room ≡ Ok k → (s.rested ≡ true) × (every byte_fits vs ≡ true) × (k ≡ count) × (k * s.nets ≤ room)
   unfolding many_judged
   many_asks k e = go s.rested refl (eqb (length vs % s.inputs) 0) (every byte_fits vs) refl (leb (count * s.nets) room) refl e
     where
       go : (x : Bool) → s.rested ≡ x → (y z : Bool) → every byte_fits vs ≡ z → (w : Bool) → leb (count * s.nets) room ≡ w
-          → cond x (cond y (cond z (cond w (Done count) (Refused NoRoom)) (Refused VectorByte)) (Refused VectorLength)) (Refused NotReady) ≡ Done k
+          → cond x (cond y (cond z (cond w (Ok count) (Err NoRoom)) (Err VectorByte)) (Err VectorLength)) (Err NotReady) ≡ Ok k
           → (s.rested ≡ true) × (every byte_fits vs ≡ true) × (k ≡ count) × (k * s.nets ≤ room)
       go true r true true f true q d = let h : k ≡ count = cc in (r, f, h, rw h (leb-true (count * s.nets) room q))
       go true r true true f false q d = let z : ◌≡◌ {A = ℕ} 0 1 = cc in absurd (omega arith)

@@ -3,8 +3,8 @@ use Rattle.std.specs.Prelude.{cond, List, ℕ, zero, suc, ◌+◌, ◌*◌, ◌/
 use Rattle.lists.specs.Entries.{every}
 use Rattle.lists.specs.Places.{part, area}
 use Rattle.rule.specs.declared.Refusal.TheVariants.{NotReady, VectorLength, VectorByte, NoRoom}
-use Rattle.rule.specs.declared.Answer.{Answer}
-use Rattle.rule.specs.declared.Answer.TheVariants.{Done, Refused}
+use Rattle.rule.specs.Answers.{Answer}
+use Rattle.std.specs.Prelude.{Ok, Err}
 use Rattle.rule.specs.Numbers.{answer_count}
 use Rattle.inputs.specs.Inputs.{byte_fits}
 use Rattle.card.specs.declared.Session.{Session}
@@ -19,7 +19,7 @@ pub record ManyRan : Type 0 where
   pub words : List ℕ
 
 -- vectors of n bytes each, one after another, the first k of them by an engine: the words of each history go to the room, after those of the vectors ahead
--- of it. One that is refused would leave the words of the last once more; none is, where `many_judged` says Done. "With 0 comes a count": that of the last,
+-- of it. One that is refused would leave the words of the last once more; none is, where `many_judged` says Ok. "With 0 comes a count": that of the last,
 -- and of none 0
 unfoldable pub many_by : Engine → Session → List ℕ → ℕ → ℕ → List ℕ → ManyRan
 many_by engine s vs n zero room = record { session = s; count = 0; words = room }
@@ -33,16 +33,16 @@ many_by engine s vs n (suc k) room =
     }
 
 -- "Vector by either engine: 12, 10, 11", of many at once: as many bytes as there are inputs for each, every one 0 or 1; and 18 where there is too little room
--- for a word a net and vector. Done says how many vectors they are
+-- for a word a net and vector. Ok says how many vectors they are
 unfoldable pub many_judged : Session → List ℕ → ℕ → Answer
 many_judged s vs room =
     cond s.rested
     (cond (eqb (length vs % s.inputs) 0)
     (cond (every byte_fits vs)
-    (cond (leb (length vs / s.inputs * s.nets) room) (Done (length vs / s.inputs)) (Refused NoRoom))
-    (Refused VectorByte))
-    (Refused VectorLength))
-    (Refused NotReady)
+    (cond (leb (length vs / s.inputs * s.nets) room) (Ok (length vs / s.inputs)) (Err NoRoom))
+    (Err VectorByte))
+    (Err VectorLength))
+    (Err NotReady)
 
 -- what is kept of the bytes after vector j; after k of them, the last two
 abbrev pub kept_at : Engine → List ℕ → List ℕ → ℕ → ℕ → List ℕ

@@ -4,8 +4,8 @@ use Rattle.lists.specs.Entries.{every}
 use Rattle.word.specs.Word.{is_one}
 use Rattle.word.specs.Times.{count}
 use Rattle.rule.specs.declared.Refusal.TheVariants.{NotReady, VectorLength, VectorByte}
-use Rattle.card_wiring.specs.declared.Verdict.{Verdict}
-use Rattle.card_wiring.specs.declared.Verdict.TheVariants.{Refused, Passed}
+use Rattle.rule.specs.Answers.{Verdict}
+use Rattle.std.specs.Prelude.{Ok, Err}
 use Rattle.inputs.specs.Allowed.{byte_limit}
 
 abbrev pub is_input_kind : ℕ → Bool
@@ -30,8 +30,8 @@ byte_fits b = ltb b byte_limit
 
 -- 10: "vector not one byte an input"; 11: "a vector byte not 0 or 1"
 unfoldable pub vector_fits : ℕ → List ℕ → Verdict
-vector_fits inputs v = cond (eqb (length v) inputs) (cond (every byte_fits v) Passed (Refused VectorByte)) (Refused VectorLength)
+vector_fits inputs v = cond (eqb (length v) inputs) (cond (every byte_fits v) (Ok tt) (Err VectorByte)) (Err VectorLength)
 
 -- "Rest: 12 (card only), 10, 11. Vector by either engine: 12, 10, 11." `ready`: there is a card; for a vector, it is rested
 unfoldable pub vector_judged : Bool → ℕ → List ℕ → Verdict
-vector_judged ready inputs v = cond ready (vector_fits inputs v) (Refused NotReady)
+vector_judged ready inputs v = cond ready (vector_fits inputs v) (Err NotReady)

@@ -5,13 +5,13 @@ use mathlib.Core.List.{List}
 use Prim.Native.Nat.{ℕ}
 use lib.ListN.{length}
 use Rattle.rule.specs.Steps.{step_list}
-use Rattle.rule.specs.declared.Answer.TheVariants.{Done}
+use Rattle.std.specs.Prelude.{Ok, Err}
 use Rattle.inputs.specs.Inputs.{given}
 use Rattle.inputs.specs.Allowed.{Vector}
 use Rattle.card.specs.declared.Session.{Session}
 use Rattle.card.specs.Session.{card_of}
 use Rattle.session.specs.Good.{Good}
-use Rattle.session.specs.declared.Moved.{Moved}
+use Rattle.session.specs.Moved.{Moved}
 use Rattle.session.specs.Moves.{moved_by, vector_of}
 use Rattle.session.proofs.Kept.{vector_good}
 use Rattle.session.proofs.Refusals.{Ruling, refuses, takes, vector_ruled, vector_takes}
@@ -38,11 +38,11 @@ count_by Fields s = 0
 count_by Steps s = length (step_list (card_of s))
 
 pub by_takes : (e : Engine) (s : Session) → Good s → s.rested ≡ true → (v : List ℕ) → Vector s.inputs v
-    → vector_by e s v ≡ record { answer = Done (count_by e s); session = moved_by s (given s.kinds v) }
+    → vector_by e s v ≡ record { answer = Ok (count_by e s); session = moved_by s (given s.kinds v) }
 by_takes Fields s g r v w = vector_takes s v r w
 by_takes Steps s g r v w =
     steps_takes s v r w
-    ∙ (λ i. record { answer = Done (run_count s (given s.kinds v) (step_list (card_of s)) i); session = steps_rule s g r (given s.kinds v) i })
+    ∙ (λ i. record { answer = Ok (run_count s (given s.kinds v) (step_list (card_of s)) i); session = steps_rule s g r (given s.kinds v) i })
 
 -- A vector by either engine: 12, 10, 11, or taken
 pub by_ruled : (e : Engine) (s : Session) → Good s → (v : List ℕ) → Ruling s.rested s v (count_by e s) (moved_by s (given s.kinds v)) (vector_by e s v)
@@ -58,4 +58,4 @@ by_ruled Steps s g v = go (steps_vector_of s v) (steps_ruled s v)
     go : (m : Moved) → Ruling s.rested s v run.count (ran_session s run) m → Ruling s.rested s v (count_by Steps s) (moved_by s new) m
     go m (refuses r w) = refuses r w
     go m (takes l w) =
-        subst₂ (λ k next. Ruling s.rested s v (count_by Steps s) (moved_by s new) (record { answer = Done k; session = next })) (sym (run_count s new (step_list (card_of s)))) (sym (steps_rule s g l new)) (takes l w)
+        subst₂ (λ k next. Ruling s.rested s v (count_by Steps s) (moved_by s new) (record { answer = Ok k; session = next })) (sym (run_count s new (step_list (card_of s)))) (sym (steps_rule s g l new)) (takes l w)

@@ -12,7 +12,7 @@ use Rattle.lists.specs.Entries.{◌∈◌}
 use Rattle.word.specs.Word.{bit}
 use Rattle.rule.specs.Net.{Net}
 use Rattle.rule.specs.Rule.{value, Rest}
-use Rattle.rule.specs.declared.Answer.TheVariants.{Done}
+use Rattle.std.specs.Prelude.{Ok}
 use Rattle.rule.proofs.Nets.{gate_listed}
 use Rattle.rule.proofs.Values.{value_same}
 use Rattle.inputs.specs.Inputs.{given}
@@ -51,7 +51,7 @@ module _ {c : List Net} {inputs : ℕ} {state : ℕ → Bool} {t : Session} (at 
   fits_here : Vector t.inputs v
   fits_here = subst (λ k. Vector k v) (sym at.same_inputs) fits
 
-  taken : vector_of t v ≡ record { answer = Done 0; session = moved_by t (given t.kinds v) }
+  taken : vector_of t v ≡ record { answer = Ok 0; session = moved_by t (given t.kinds v) }
   taken = vector_takes t v at.rested fits_here
 
   card : HasCard t
@@ -121,7 +121,7 @@ module _ (s : Session) (g : Good s) (loaded : s.loaded ≡ true) (u : List ℕ) 
 
     module _ (vs : List (List ℕ)) (all : (v : List ℕ) → v ∈ vs → Vector s.inputs v) (v : List ℕ) (last : Vector s.inputs v) where
       -- every vector of the list is taken
-      pub sequence_taken : (vector_of (after (rest_of s u).session vs) v).answer ≡ Done 0
+      pub sequence_taken : (vector_of (after (rest_of s u).session vs) v).answer ≡ Ok 0
       sequence_taken = ap (λ x. x.answer) (taken (after_stands rest_stands vs all) v last)
 
       -- and leaves the same card, rested

@@ -15,9 +15,8 @@ use Rattle.rule.specs.Net.{open_pin, at_pin, net_at}
 use Rattle.rule.specs.Chain.{pc_set}
 use Rattle.rule.specs.Level.{longest, level, depth}
 use Rattle.rule.specs.Steps.{gate_order, net_steps, step_list}
-use Rattle.rule.specs.declared.Answer.TheVariants.{Done}
-use Rattle.card_wiring.specs.declared.Verdict.TheVariants.{Passed}
-use Rattle.card_wiring.specs.Wired.{pins_fit, most_back, wired_of}
+use Rattle.std.specs.Prelude.{Ok}
+use Rattle.card_wiring.specs.Wired.{pins_fit, most_back, verdict_of, wired_of}
 use Rattle.inputs.specs.Inputs.{given}
 use Rattle.inputs.proofs.Verdicts.{fits_vector}
 use Rattle.card_records.specs.Written.{Bytes}
@@ -43,7 +42,7 @@ pub example_loaded : Session
 example_loaded = (load_of none example_card).session
 
 -- the card passes every test of its wiring, and has three inputs and two gates
-worked_out : ((wired_of example_nets).verdict ≡ Passed) × (inputs_of example_nets ≡ 3) × (length (gate_order example_nets) ≡ 2)
+worked_out : (verdict_of (wired_of example_nets) ≡ (Ok tt)) × (inputs_of example_nets ≡ 3) × (length (gate_order example_nets) ≡ 2)
 unfolding wired_of pins_fit most_back open_pin at_pin net_at longest level depth gate_order net_steps step_list pc_set inputs_of count
 worked_out = (refl, refl, refl)
 
@@ -65,7 +64,7 @@ card_loaded =
 pub example_rested : Session
 example_rested = (rest_of example_loaded (0 ∷ 1 ∷ 1 ∷ [])).session
 
-pub example_rest : rest_of example_loaded (0 ∷ 1 ∷ 1 ∷ []) ≡ record { answer = Done 0; session = rested_by example_loaded (given example_loaded.kinds (0 ∷ 1 ∷ 1 ∷ [])) }
+pub example_rest : rest_of example_loaded (0 ∷ 1 ∷ 1 ∷ []) ≡ record { answer = Ok 0; session = rested_by example_loaded (given example_loaded.kinds (0 ∷ 1 ∷ 1 ∷ [])) }
 example_rest = rest_takes example_loaded (0 ∷ 1 ∷ 1 ∷ []) card_loaded.0 (fits_vector _ _ (sym card_loaded.1) refl)
 
 card_rested : (example_rested.rested ≡ true) × (example_rested.inputs ≡ 3) × (example_rested.gates ≡ 2)
@@ -77,7 +76,7 @@ card_rested = (ap (λ x. x.session.rested) example_rest, ap (λ x. x.session.inp
 pub example_moved : Session
 example_moved = (vector_of example_rested (1 ∷ 1 ∷ 0 ∷ [])).session
 
-pub example_vector : vector_of example_rested (1 ∷ 1 ∷ 0 ∷ []) ≡ record { answer = Done 0; session = moved_by example_rested (given example_rested.kinds (1 ∷ 1 ∷ 0 ∷ [])) }
+pub example_vector : vector_of example_rested (1 ∷ 1 ∷ 0 ∷ []) ≡ record { answer = Ok 0; session = moved_by example_rested (given example_rested.kinds (1 ∷ 1 ∷ 0 ∷ [])) }
 example_vector = vector_takes example_rested (1 ∷ 1 ∷ 0 ∷ []) card_rested.0 (fits_vector _ _ (sym card_rested.1) refl)
 
 -- the predicate is met by the session that a real card leaves: loaded, at rest, and after a vector

@@ -6,13 +6,12 @@ use Rattle.word.specs.Times.{count}
 use Rattle.rule.specs.Net.{Net, net_at, is_input}
 use Rattle.rule.specs.Rule.{value}
 use Rattle.rule.specs.declared.Refusal.{Refusal}
-use Rattle.rule.specs.declared.Answer.TheVariants.{Done, Refused}
-use Rattle.card_wiring.specs.declared.Verdict.{Verdict}
-use Rattle.card_wiring.specs.declared.Verdict.TheVariants.{Refused as Faulty, Passed}
+use Rattle.std.specs.Prelude.{Ok, Err}
+use Rattle.rule.specs.Answers.{Verdict}
 use Rattle.inputs.specs.Inputs.{given, vector_judged}
 use Rattle.card.specs.declared.Session.{Session}
 use Rattle.card.specs.Session.{card_of, word_at, resting}
-use Rattle.session.specs.declared.Moved.{Moved}
+use Rattle.session.specs.Moved.{Moved}
 use Rattle.session.specs.Good.{histories}
 
 -- the value that a vector gives net n of a card: input j's is byte j; only inputs are given any
@@ -20,12 +19,12 @@ unfoldable pub given_to : List Net → List ℕ → ℕ → Bool
 given_to c v n = cond (is_input (net_at c n)) (is_one (get_or v (count (λ m. is_input (net_at c m)) n) 0)) false
 
 abbrev pub refused_move : Session → Refusal → Moved
-refused_move s why = record { answer = Refused why; session = s }
+refused_move s why = record { answer = Err why; session = s }
 
 -- done with a count, or refused for its vector
 abbrev pub moving : Session → Verdict → ℕ → Session → Moved
-moving s (Faulty why) count next = refused_move s why
-moving s Passed count next = record { answer = Done count; session = next }
+moving s (Err why) count next = refused_move s why
+moving s (Ok _) count next = record { answer = Ok count; session = next }
 
 -- "The value at 63 is the next before value."
 unfoldable pub ends : Session → ℕ → Bool

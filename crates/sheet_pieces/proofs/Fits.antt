@@ -17,12 +17,12 @@ use Rattle.rule.specs.Steps.{step_list}
 use Rattle.rule.specs.Numbers.{number_of}
 use Rattle.rule.specs.declared.Refusal.{Refusal}
 use Rattle.rule.specs.declared.Refusal.TheVariants.{NoRoom}
-use Rattle.rule.specs.declared.Answer.{Answer}
-use Rattle.rule.specs.declared.Answer.TheVariants.{Done, Refused}
+use Rattle.rule.specs.Answers.{Answer}
+use Rattle.std.specs.Prelude.{Ok, Err}
 use Rattle.rule.proofs.Numbers.{number_low}
 use Rattle.card_records.specs.Written.{Bytes}
 use Rattle.card.specs.declared.Session.{Session}
-use Rattle.card.specs.declared.Loaded.{Loaded}
+use Rattle.card.specs.Loaded.{Loaded}
 use Rattle.card.specs.Session.{none, card_of, before_at}
 use Rattle.card.specs.Load.{load_of}
 use Rattle.card.specs.Held.{HasCard}
@@ -99,10 +99,10 @@ vector_short k s l h =
       few s h,
     )
 
-unless_short : (a : Answer) (sheet : Sheet) (p : Portion) → ((k : ℕ) → a ≡ Done k → length p.text ≤ 20480)
+unless_short : (a : Answer) (sheet : Sheet) (p : Portion) → ((k : ℕ) → a ≡ Ok k → length p.text ≤ 20480)
     → length (piece_unless a sheet p).text ≤ 20480
-unless_short (Done k) sheet p h = h k refl
-unless_short (Refused why) sheet p h = refused_short why
+unless_short (Ok k) sheet p h = h k refl
+unless_short (Err why) sheet p h = refused_short why
 
 module _ (file : List ℕ) (bytes : Bytes file) (size : length file < 2 ^ 64) where
   pub piece_fits : (sheet : Sheet) → Standing sheet → length (piece_of sheet file).text ≤ 20480

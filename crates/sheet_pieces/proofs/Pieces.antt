@@ -9,11 +9,11 @@ use lib.ListN.{length, take}
 use Rattle.rule.specs.Level.{depth}
 use Rattle.rule.specs.declared.Refusal.{Refusal}
 use Rattle.rule.specs.declared.Refusal.TheVariants.{NoRoom}
-use Rattle.rule.specs.declared.Answer.{Answer}
-use Rattle.rule.specs.declared.Answer.TheVariants.{Done, Refused}
+use Rattle.rule.specs.Answers.{Answer}
+use Rattle.std.specs.Prelude.{Ok, Err}
 use Rattle.card_records.specs.Written.{Bytes}
 use Rattle.card.specs.declared.Session.{Session}
-use Rattle.card.specs.declared.Loaded.{Loaded}
+use Rattle.card.specs.Loaded.{Loaded}
 use Rattle.card.specs.Session.{none, card_of}
 use Rattle.card.specs.Load.{load_of}
 use Rattle.session.specs.Moves.{rest_of, vector_of}
@@ -47,8 +47,8 @@ module _ (file : List ℕ) where
 
   answered : (n : ℕ) (a : Answer) (sheet : Sheet) (p : Portion) (text : List ℕ) → said n p ≡ text
       → said n (piece_unless a sheet p) ≡ unless_refused a text
-  answered n (Done k) sheet p text e = e
-  answered n (Refused why) sheet p text e = refused_ends n sheet why
+  answered n (Ok k) sheet p text e = e
+  answered n (Err why) sheet p text e = refused_ends n sheet why
 
   -- a sheet whose card is loaded
   abbrev going : Session → (depth at vectors : ℕ) → Sheet

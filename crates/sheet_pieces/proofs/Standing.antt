@@ -9,12 +9,12 @@ use lib.ListN.{length, take}
 use borrow.Author.Tests.{ltb-false, le-leb}
 use Rattle.rule.specs.Level.{depth}
 use Rattle.rule.specs.declared.Refusal.TheVariants.{CutShort, BadRecord, NoRoom}
-use Rattle.rule.specs.declared.Answer.{Answer}
-use Rattle.rule.specs.declared.Answer.TheVariants.{Done, Refused}
+use Rattle.rule.specs.Answers.{Answer}
+use Rattle.std.specs.Prelude.{Ok, Err}
 use Rattle.card_records.specs.Bytes.{u16_at}
 use Rattle.card_records.specs.Written.{Bytes}
 use Rattle.card.specs.declared.Session.{Session}
-use Rattle.card.specs.declared.Loaded.{Loaded}
+use Rattle.card.specs.Loaded.{Loaded}
 use Rattle.card.specs.Session.{none, card_of}
 use Rattle.card.specs.Load.{load_of}
 use Rattle.session.specs.Good.{Good}
@@ -83,8 +83,8 @@ fresh_stands = record { good = none_good; deep = λ e. absurd (differ e); counte
     differ e = let z : ◌≡◌ {A = ℕ} 0 1 = cc in omega arith
 
 unless_stands : (a : Answer) (sheet : Sheet) (p : Portion) → Good sheet.session → Standing p.after → Standing (piece_unless a sheet p).after
-unless_stands (Done k) sheet p g s = s
-unless_stands (Refused why) sheet p g s = over_stands sheet g
+unless_stands (Ok k) sheet p g s = s
+unless_stands (Err why) sheet p g s = over_stands sheet g
 
 moved_stands : (sheet : Sheet) → Standing sheet → sheet.stage ≡ Going → (s : Session) → Good s → card_of s ≡ card_of sheet.session
     → (next vectors : ℕ)
@@ -136,8 +136,8 @@ module _ (file : List ℕ) (bytes : Bytes file) where
 module _ (file : List ℕ) where
   unless_left : (a : Answer) (sheet : Sheet) (p : Portion) (k : ℕ) → 0 < k → left p.after file < k → left (piece_unless a sheet p).after file < k
   unfolding left
-  unless_left (Done n) sheet p k l h = h
-  unless_left (Refused why) sheet p k l h = l
+  unless_left (Ok n) sheet p k l h = h
+  unless_left (Err why) sheet p k l h = l
 
   -- every piece leaves fewer, until the sheet is over
   pub piece_falls : (sheet : Sheet) → ¬ (sheet.stage ≡ Over) → left (piece_of sheet file).after file < left sheet file

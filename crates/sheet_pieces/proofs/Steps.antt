@@ -9,11 +9,11 @@ use borrow.Author.Tests.{lt-ltb, le-ltb}
 use Rattle.lists.proofs.Places.{part_all}
 use Rattle.rule.specs.declared.Refusal.{Refusal}
 use Rattle.rule.specs.declared.Refusal.TheVariants.{NoRoom}
-use Rattle.rule.specs.declared.Answer.{Answer}
-use Rattle.rule.specs.declared.Answer.TheVariants.{Done, Refused}
+use Rattle.rule.specs.Answers.{Answer}
+use Rattle.std.specs.Prelude.{Ok, Err}
 use Rattle.card_records.specs.Written.{Bytes}
 use Rattle.card.specs.declared.Session.{Session}
-use Rattle.card.specs.declared.Loaded.{Loaded}
+use Rattle.card.specs.Loaded.{Loaded}
 use Rattle.card.specs.Session.{none}
 use Rattle.card.specs.Load.{load_of}
 use Rattle.text.specs.Inner.Put.{Put}
@@ -40,10 +40,10 @@ piece_at_lem sheet file x e = ap (λ y. piece_at y sheet file) (sym e)
 
 -- An answer decides between a refusal and a portion
 
-pub refused_so : (a : Answer) (sheet : Sheet) (p : Portion) (why : Refusal) → a ≡ Refused why → refused_piece sheet why ≡ piece_unless a sheet p
+pub refused_so : (a : Answer) (sheet : Sheet) (p : Portion) (why : Refusal) → a ≡ Err why → refused_piece sheet why ≡ piece_unless a sheet p
 refused_so a sheet p why e = ap (λ x. piece_unless x sheet p) (sym e)
 
-pub done_so : (a : Answer) (sheet : Sheet) (p : Portion) (k : ℕ) → a ≡ Done k → p ≡ piece_unless a sheet p
+pub done_so : (a : Answer) (sheet : Sheet) (p : Portion) (k : ℕ) → a ≡ Ok k → p ≡ piece_unless a sheet p
 done_so a sheet p k e = ap (λ x. piece_unless x sheet p) (sym e)
 
 -- The card

@@ -5,13 +5,13 @@ use Rattle.std.proofs.lemmas.List.Edits.{sets}
 use Rattle.rule.specs.Level.{depth}
 use Rattle.rule.specs.declared.Refusal.{Refusal}
 use Rattle.rule.specs.declared.Refusal.TheVariants.{NoRoom}
-use Rattle.rule.specs.declared.Answer.{Answer}
-use Rattle.rule.specs.declared.Answer.TheVariants.{Done, Refused}
+use Rattle.rule.specs.Answers.{Answer}
+use Rattle.std.specs.Prelude.{Ok, Err}
 use Rattle.card.specs.declared.Session.{Session}
-use Rattle.card.specs.declared.Loaded.{Loaded}
+use Rattle.card.specs.Loaded.{Loaded}
 use Rattle.card.specs.Session.{none, card_of}
 use Rattle.card.specs.Load.{load_of}
-use Rattle.session.specs.declared.Moved.{Moved}
+use Rattle.session.specs.Moved.{Moved}
 use Rattle.session.specs.Good.{Good}
 use Rattle.session.specs.Moves.{rest_of, vector_of}
 use Rattle.sheet_text.specs.declared.Entry.{Entry}
@@ -49,8 +49,8 @@ refused_piece sheet why = record { text = refused_line why; after = ended sheet 
 
 -- a refusal ends the sheet with its line
 abbrev pub piece_unless : Answer → Sheet → Portion → Portion
-piece_unless (Done count) sheet p = p
-piece_unless (Refused why) sheet p = refused_piece sheet why
+piece_unless (Ok count) sheet p = p
+piece_unless (Err why) sheet p = refused_piece sheet why
 
 -- the card
 abbrev pub loaded_piece : Sheet → ℕ → Loaded → Portion

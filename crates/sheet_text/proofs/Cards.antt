@@ -11,7 +11,7 @@ use Rattle.lists.proofs.Rooms.{filled_at}
 use Rattle.word.specs.Word.{val}
 use Rattle.rule.specs.Net.{Net}
 use Rattle.rule.specs.Level.{depth}
-use Rattle.rule.specs.declared.Answer.{Answer}
+use Rattle.rule.specs.Answers.{Answer}
 use Rattle.card.specs.declared.Session.{Session}
 use Rattle.card.specs.Session.{card_of, word_at, before_at}
 use Rattle.card.specs.Held.{HasCard}

@@ -1,13 +1,13 @@
 -- The sheet of a session file, as document 01's "The sheet program" has it. Assumes nothing.
 use Rattle.std.specs.Prelude.{cond, List, [], ◌++◌, ℕ, zero, suc, ◌+◌, ltb, length, take}
 use Rattle.rule.specs.declared.Refusal.TheVariants.{NoRoom}
-use Rattle.rule.specs.declared.Answer.{Answer}
-use Rattle.rule.specs.declared.Answer.TheVariants.{Done, Refused}
+use Rattle.rule.specs.Answers.{Answer}
+use Rattle.std.specs.Prelude.{Ok, Err}
 use Rattle.card.specs.declared.Session.{Session}
-use Rattle.card.specs.declared.Loaded.{Loaded}
+use Rattle.card.specs.Loaded.{Loaded}
 use Rattle.card.specs.Session.{none}
 use Rattle.card.specs.Load.{load_of}
-use Rattle.session.specs.declared.Moved.{Moved}
+use Rattle.session.specs.Moved.{Moved}
 use Rattle.session.specs.Moves.{rest_of, vector_of}
 use Rattle.sheet_text.specs.declared.Entry.{Entry}
 use Rattle.sheet_text.specs.declared.Entry.TheVariants.{Nothing, Bad, Rest, Vector}
@@ -16,8 +16,8 @@ use Rattle.sheet_text.specs.Walk.{card_end, entry_at, body}
 
 -- "It stops at the first refusal with a line `refused` and the number, and prints nothing else for that record."
 abbrev pub unless_refused : Answer → List ℕ → List ℕ
-unless_refused (Done count) text = text
-unless_refused (Refused why) text = refused_line why
+unless_refused (Ok count) text = text
+unless_refused (Err why) text = refused_line why
 
 -- one record, handed on to the session that those ahead of it left, with the number of vectors so far; `more` is the text of what follows.
 -- "A rest prints nothing."

@@ -3,8 +3,8 @@ use Rattle.std.specs.Prelude.{cond, ◌&&◌, List, ℕ, leb, length}
 use Rattle.lists.specs.Filled.{filled}
 use Rattle.rule.specs.Steps.{step_at, step_list}
 use Rattle.rule.specs.declared.Refusal.TheVariants.{NotReady, NoRoom}
-use Rattle.rule.specs.declared.Answer.{Answer}
-use Rattle.rule.specs.declared.Answer.TheVariants.{Done, Refused}
+use Rattle.rule.specs.Answers.{Answer}
+use Rattle.std.specs.Prelude.{Ok, Err}
 use Rattle.card.specs.declared.Session.{Session}
 use Rattle.card.specs.Session.{card_of}
 
@@ -20,6 +20,6 @@ list_of s nets times =
     let kept : Answer → Listed = λ a. record { answer = a; nets = nets; times = times } in
     cond s.loaded
     (cond (leb (length ks) (length nets) && leb (length ks) (length times))
-    (record { answer = Done (length ks); nets = filled (λ e. (step_at ks e).net) (length ks) nets; times = filled (λ e. (step_at ks e).time) (length ks) times })
-    (kept (Refused NoRoom)))
-    (kept (Refused NotReady))
+    (record { answer = Ok (length ks); nets = filled (λ e. (step_at ks e).net) (length ks) nets; times = filled (λ e. (step_at ks e).time) (length ks) times })
+    (kept (Err NoRoom)))
+    (kept (Err NotReady))

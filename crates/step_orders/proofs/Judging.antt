@@ -23,8 +23,8 @@ use Rattle.rule.specs.declared.Refusal.TheVariants.{OrderLength, OrderEntry, Ord
 use Rattle.rule.proofs.Runs.{pairs_of_ready}
 use Rattle.rule.proofs.StepRuns.{same_one, same_self, ahead, step_time, good_ready}
 use Rattle.rule.proofs.StepLists.{list_all, list_only, list_once, good_number}
-use Rattle.card_wiring.specs.declared.Verdict.{Verdict}
-use Rattle.card_wiring.specs.declared.Verdict.TheVariants.{Refused, Passed}
+use Rattle.rule.specs.Answers.{Verdict}
+use Rattle.std.specs.Prelude.{Ok, Err}
 use Rattle.step_orders.specs.Orders.{once_each, entries_fit, steps_of, order_ready, order_judged}
 
 -- Lists of which no entry stands twice
@@ -151,23 +151,23 @@ module _ (c : List Net) (free : ¬ Looped c) (pinned : Pinned c) (order : List �
       later k m = let r = out_map (step_at (step_list c)) order k m in step_time c k (subst (IsStep c) (sym r.2) (entry_step r.0 (entries r.0 r.1)))
 
   -- "in any order that has each step once and no step before one whose value it reads"
-  pub good_passes : GoodOrder c ks → order_judged c order ≡ Passed
+  pub good_passes : GoodOrder c ks → order_judged c order ≡ (Ok tt)
   unfolding order_judged
   good_passes g = let f = good_fit g in rw (eq-eqb (length order) total f.long, entries_true total order f.entries f.once, ready_true f)
 
   -- how the tests went
   pub data Judgement : Verdict → Type 0 where
-    gets_15 : ¬ (length order ≡ total) → Judgement (Refused OrderLength)
-    gets_16 : length order ≡ total → ¬ (((e : ℕ) → e ∈ order → e < total) × Distinct order) → Judgement (Refused OrderEntry)
-    gets_17 : length order ≡ total → ((e : ℕ) → e ∈ order → e < total) → Distinct order → ¬ Sorted (λ k later. ¬ (later ∈ step_reads c k)) ks → Judgement (Refused OrderEarly)
-    taken : GoodOrder c ks → Judgement Passed
+    gets_15 : ¬ (length order ≡ total) → Judgement (Err OrderLength)
+    gets_16 : length order ≡ total → ¬ (((e : ℕ) → e ∈ order → e < total) × Distinct order) → Judgement (Err OrderEntry)
+    gets_17 : length order ≡ total → ((e : ℕ) → e ∈ order → e < total) → Distinct order → ¬ Sorted (λ k later. ¬ (later ∈ step_reads c k)) ks → Judgement (Err OrderEarly)
+    taken : GoodOrder c ks → Judgement (Ok tt)
 
   pub judgement : Judgement (order_judged c order)
   unfolding order_judged
   judgement = go (eqb (length order) total) refl (entries_fit total order) refl (order_ready c order) refl
     where
       go : (a : Bool) → eqb (length order) total ≡ a → (b : Bool) → entries_fit total order ≡ b → (r : Bool) → order_ready c order ≡ r
-          → Judgement (cond a (cond b (cond r Passed (Refused OrderEarly)) (Refused OrderEntry)) (Refused OrderLength))
+          → Judgement (cond a (cond b (cond r (Ok tt) (Err OrderEarly)) (Err OrderEntry)) (Err OrderLength))
       go false p b q r w = gets_15 (eqb-false (length order) total p)
       go true p false q r w =
           gets_16 (eqb-true (length order) total p) (λ h. not_both (entries_fit total order) (entries_true total order h.0 h.1) q)

@@ -17,7 +17,7 @@ use Rattle.word.specs.Word.{bit}
 use Rattle.word.proofs.Words.{is_word}
 use Rattle.rule.specs.Steps.{Step}
 use Rattle.rule.specs.declared.Refusal.TheVariants.{OrderLength, OrderEntry, OrderEarly}
-use Rattle.card_wiring.specs.declared.Verdict.TheVariants.{Refused, Passed}
+use Rattle.std.specs.Prelude.{Ok, Err}
 use Rattle.step_vars.specs.Variables.{read_in, reads_in}
 use Rattle.step_orders.specs.Orders.{entries_fit}
 use Rattle.step_orders.specs.Inner.Ready.{StepEntry, order_steps, done_of, mark_in, ready_in, judged_in}
@@ -84,17 +84,17 @@ module _ (counts places sets nets times : List ℕ) (total : ℕ) (order : List 
   abbrev is_ready : Bool
   is_ready = ready_in counts places sets (replicate 256 1) (order_steps nets times order)
 
-  pub judged_length : ¬ (length order ≡ total) → Refused OrderLength ≡ judged_in counts places sets nets times total order
+  pub judged_length : ¬ (length order ≡ total) → Err OrderLength ≡ judged_in counts places sets nets times total order
   unfolding judged_in
   judged_length e = rw (ne_eqb (length order) total e)
 
-  pub judged_entry : length order ≡ total → entries_fit total order ≡ false → Refused OrderEntry ≡ judged_in counts places sets nets times total order
+  pub judged_entry : length order ≡ total → entries_fit total order ≡ false → Err OrderEntry ≡ judged_in counts places sets nets times total order
   unfolding judged_in
   judged_entry e f = rw (eq-eqb (length order) total e, f)
 
-  pub judged_ready : length order ≡ total → entries_fit total order ≡ true → (b : Bool) → is_ready ≡ b → cond b Passed (Refused OrderEarly) ≡ judged_in counts places sets nets times total order
+  pub judged_ready : length order ≡ total → entries_fit total order ≡ true → (b : Bool) → is_ready ≡ b → cond b (Ok tt) (Err OrderEarly) ≡ judged_in counts places sets nets times total order
   unfolding judged_in
-  judged_ready e f b r = rw (eq-eqb (length order) total e, f) (ap (λ x. cond x Passed (Refused OrderEarly)) (sym r))
+  judged_ready e f b r = rw (eq-eqb (length order) total e, f) (ap (λ x. cond x (Ok tt) (Err OrderEarly)) (sym r))
 
   -- every entry of an order that fits names a step
   pub entry_fits : entries_fit total order ≡ true → ((e : ℕ) → e < total → StepEntry nets times e) → (i : ℕ) → i < length order → StepEntry nets times (get_or order i 0)

@@ -5,8 +5,8 @@ use Rattle.rule.specs.Net.{Net}
 use Rattle.rule.specs.Run.{ready}
 use Rattle.rule.specs.Steps.{Step, same_step, step_reads, step_list, step_at}
 use Rattle.rule.specs.declared.Refusal.TheVariants.{OrderLength, OrderEntry, OrderEarly}
-use Rattle.card_wiring.specs.declared.Verdict.{Verdict}
-use Rattle.card_wiring.specs.declared.Verdict.TheVariants.{Refused, Passed}
+use Rattle.rule.specs.Answers.{Verdict}
+use Rattle.std.specs.Prelude.{Ok, Err}
 
 -- each entry stands once
 abbrev pub once_each : List ℕ → Bool
@@ -29,5 +29,5 @@ order_ready c order = ready same_step (step_reads c) (λ k. eqb k.time 0) (steps
 unfoldable pub order_judged : List Net → List ℕ → Verdict
 order_judged c order =
     cond (eqb (length order) (length (step_list c)))
-    (cond (entries_fit (length (step_list c)) order) (cond (order_ready c order) Passed (Refused OrderEarly)) (Refused OrderEntry))
-    (Refused OrderLength)
+    (cond (entries_fit (length (step_list c)) order) (cond (order_ready c order) (Ok tt) (Err OrderEarly)) (Err OrderEntry))
+    (Err OrderLength)

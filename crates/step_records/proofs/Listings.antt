@@ -12,7 +12,7 @@ use Rattle.lists.proofs.Rooms.{fills_none, fills_same, fills_at, fills_past, fil
 use Rattle.rule.specs.Steps.{Step, step_list, step_at}
 use Rattle.rule.specs.declared.Refusal.{Refusal}
 use Rattle.rule.specs.declared.Refusal.TheVariants.{NotReady, NoRoom}
-use Rattle.rule.specs.declared.Answer.TheVariants.{Done, Refused}
+use Rattle.std.specs.Prelude.{Ok, Err}
 use Rattle.card.specs.declared.Session.{Session}
 use Rattle.card.specs.Session.{card_of}
 use Rattle.card.proofs.Kept.{card_steps}
@@ -33,7 +33,7 @@ module _ (s : Session) (room : ℕ) where
   ks = step_list (card_of s)
 
   abbrev full : Listing
-  full = record { answer = Done (length ks); total = length ks; records = records_put s (replicate 4096 blank_record) }
+  full = record { answer = Ok (length ks); total = length ks; records = records_put s (replicate 4096 blank_record) }
 
   abbrev found : Bool → Bool → Listing
   found a b = cond a (cond b full (refused_listing NoRoom)) (refused_listing NotReady)
@@ -55,13 +55,13 @@ module _ (s : Session) (room : ℕ) where
   pub listing_made : {nets₀ times₀ nets times : List ℕ} {total : ℕ} → Holds ks nets₀ times₀ nets times total → length nets₀ ≡ 4096
       → length times₀ ≡ 4096 → total ≤ 4096 → s.loaded ≡ true → total ≤ room → (records : List StepRecord)
       → records ≡ records_in (record_in nets times) total (replicate 4096 blank_record)
-      → record { answer = Done total; total = total; records = records } ≡ listing_of s room
+      → record { answer = Ok total; total = total; records = records } ≡ listing_of s room
   listing_made {nets₀} {times₀} {nets} {times} {total} h ln lt few loaded fits records e =
       let at : (e : ℕ) → e < total → e < length ks = λ e b. omega (arith, h.size) in
-      ap (λ x. record { answer = Done total; total = total; records = x })
+      ap (λ x. record { answer = Ok total; total = total; records = x })
       (e ∙ fills_same blank_record (record_in nets times) (λ e. step_record (step_at ks e)) total (replicate 4096 blank_record)
       (λ e b i. record { net = held_net h ln lt few e (at e b) i; time = held_time h ln lt few e (at e b) i }))
-      ∙ ap (λ n. record { answer = Done n; total = n; records = records_in (λ e. step_record (step_at ks e)) n (replicate 4096 blank_record) }) h.size
+      ∙ ap (λ n. record { answer = Ok n; total = n; records = records_in (λ e. step_record (step_at ks e)) n (replicate 4096 blank_record) }) h.size
       ∙ sym (listing_full loaded (omega (arith, h.size)))
 
 -- What goes to the lent room
@@ -72,32 +72,32 @@ module _ (s : Session) (room : List StepRecord) where
 
   -- refused: the room keeps what it had
   abbrev kept : Refusal → Answered
-  kept why = record { answer = Refused why; room = room }
+  kept why = record { answer = Err why; room = room }
 
   abbrev tested : Bool → Bool → Answered
-  tested a b = cond a (cond b (record { answer = Done (length all); room = records_put s room }) (kept NoRoom)) (kept NotReady)
+  tested a b = cond a (cond b (record { answer = Ok (length all); room = records_put s room }) (kept NoRoom)) (kept NotReady)
 
   tested_is : (a b : Bool) → s.loaded ≡ a → leb (length all) (length room) ≡ b → records_of s room ≡ tested a b
   unfolding records_of
   tested_is a b ea eb = ap (λ x. tested x (leb (length all) (length room))) ea ∙ ap (tested a) eb
 
   -- 12 where no card is loaded: the lent room keeps what it had,
-  pub records_12 : s.loaded ≡ false → records_of s room ≡ record { answer = Refused NotReady; room = room }
+  pub records_12 : s.loaded ≡ false → records_of s room ≡ record { answer = Err NotReady; room = room }
   records_12 e = tested_is false _ e refl
 
   -- 18 where one is and the room is too small: it keeps it too,
-  pub records_18 : s.loaded ≡ true → length room < length all → records_of s room ≡ record { answer = Refused NoRoom; room = room }
+  pub records_18 : s.loaded ≡ true → length room < length all → records_of s room ≡ record { answer = Err NoRoom; room = room }
   records_18 e l = tested_is true false e (lt-leb (length all) (length room) l)
 
   -- 0 else, with the list's length
-  pub records_0 : s.loaded ≡ true → length all ≤ length room → records_of s room ≡ record { answer = Done (length all); room = records_put s room }
+  pub records_0 : s.loaded ≡ true → length all ≤ length room → records_of s room ≡ record { answer = Ok (length all); room = records_put s room }
   records_0 e l = tested_is true true e (le-leb (length all) (length room) l)
 
   -- and each answer is given for that alone
   pub data Ruling : Answered → Type 0 where
-    says_12 : s.loaded ≡ false → Ruling (record { answer = Refused NotReady; room = room })
-    says_18 : s.loaded ≡ true → length room < length all → Ruling (record { answer = Refused NoRoom; room = room })
-    says_0 : s.loaded ≡ true → length all ≤ length room → Ruling (record { answer = Done (length all); room = records_put s room })
+    says_12 : s.loaded ≡ false → Ruling (record { answer = Err NotReady; room = room })
+    says_18 : s.loaded ≡ true → length room < length all → Ruling (record { answer = Err NoRoom; room = room })
+    says_0 : s.loaded ≡ true → length all ≤ length room → Ruling (record { answer = Ok (length all); room = records_put s room })
 
   pub records_ruled : Ruling (records_of s room)
   records_ruled = go s.loaded (leb (length all) (length room)) refl refl
@@ -110,10 +110,10 @@ module _ (s : Session) (room : List StepRecord) where
   abbrev pub Reason : Refusal → Type 0
   Reason why = ((why ≡ NotReady) × (s.loaded ≡ false)) ⊎ ((why ≡ NoRoom) × (s.loaded ≡ true) × (length room < length all))
 
-  pub records_refused : (why : Refusal) → (records_of s room).answer ≡ Refused why → ((records_of s room).room ≡ room) × Reason why
+  pub records_refused : (why : Refusal) → (records_of s room).answer ≡ Err why → ((records_of s room).room ≡ room) × Reason why
   records_refused why e = go (records_of s room) records_ruled e
     where
-      go : (r : Answered) → Ruling r → r.answer ≡ Refused why → (r.room ≡ room) × Reason why
+      go : (r : Answered) → Ruling r → r.answer ≡ Err why → (r.room ≡ room) × Reason why
       go r (says_12 l) q = (refl, inl ((cc), l))
       go r (says_18 l m) q = (refl, inr ((cc), l, m))
       go r (says_0 l m) q = let z : ◌≡◌ {A = ℕ} 0 1 = cc in absurd (omega arith)
@@ -138,7 +138,7 @@ module _ (s : Session) (room : List StepRecord) where
     found_copied = go s.loaded (leb (length all) (length room)) refl refl
       where
         none_copied : (why : Refusal) → copied (refused_listing why) ≡ kept why
-        none_copied why = ap (λ x. record { answer = Refused why; room = x }) (sym (fills_none blank_record _ room))
+        none_copied why = ap (λ x. record { answer = Err why; room = x }) (sym (fills_none blank_record _ room))
 
         go : (a b : Bool) → s.loaded ≡ a → leb (length all) (length room) ≡ b → copied (listing_of s (length room)) ≡ records_of s room
         go false b ea eb = ap copied (listing_none s (length room) ea) ∙ none_copied NotReady ∙ sym (records_12 ea)
@@ -148,7 +148,7 @@ module _ (s : Session) (room : List StepRecord) where
             let few = card_steps s (good.card ea) in
             let size = length-replicate 4096 blank_record in
             ap copied (listing_full s (length room) ea l)
-            ∙ ap (λ x. record { answer = Done (length all); room = x })
+            ∙ ap (λ x. record { answer = Ok (length all); room = x })
             (fills_through blank_record (λ e. step_record (step_at all e)) (length all) (length all) (replicate 4096 blank_record) room (omega arith)
             (omega (arith, few, size)))
             ∙ sym (records_0 ea l)

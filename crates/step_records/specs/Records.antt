@@ -3,8 +3,8 @@ use Rattle.std.specs.Prelude.{cond, List, ℕ, leb, length}
 use Rattle.lists.specs.Filled.{fills}
 use Rattle.rule.specs.Steps.{Step, step_list, step_at}
 use Rattle.rule.specs.declared.Refusal.TheVariants.{NotReady, NoRoom}
-use Rattle.rule.specs.declared.Answer.{Answer}
-use Rattle.rule.specs.declared.Answer.TheVariants.{Done, Refused}
+use Rattle.rule.specs.Answers.{Answer}
+use Rattle.std.specs.Prelude.{Ok, Err}
 use Rattle.card.specs.declared.Session.{Session}
 use Rattle.card.specs.Session.{card_of}
 use Rattle.step_records.specs.declared.StepRecord.{StepRecord}
@@ -34,5 +34,5 @@ records_of s room =
     let n = length (step_list (card_of s)) in
     let kept : Answer → Answered = λ a. record { answer = a; room = room } in
     cond s.loaded
-    (cond (leb n (length room)) (record { answer = Done n; room = records_put s room }) (kept (Refused NoRoom)))
-    (kept (Refused NotReady))
+    (cond (leb n (length room)) (record { answer = Ok n; room = records_put s room }) (kept (Err NoRoom)))
+    (kept (Err NotReady))

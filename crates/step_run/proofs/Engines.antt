@@ -22,7 +22,7 @@ use Rattle.rule.proofs.PinReads.{read_named, read_below}
 use Rattle.rule.proofs.Runs.{take_in}
 use Rattle.rule.proofs.StepRuns.{reached, left_by_first, left_history}
 use Rattle.rule.proofs.StepLists.{list_good, list_number}
-use Rattle.card_wiring.specs.declared.Verdict.{Verdict}
+use Rattle.rule.specs.Answers.{Verdict}
 use Rattle.inputs.specs.Inputs.{given, vector_judged}
 use Rattle.inputs.proofs.Verdicts.{Judging, refused, passed, judging}
 use Rattle.card.specs.declared.Session.{Session}

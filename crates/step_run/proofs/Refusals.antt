@@ -4,7 +4,7 @@ use mathlib.Core.List.{List}
 use Prim.Native.Nat.{ℕ}
 use Rattle.rule.specs.Steps.{step_list}
 use Rattle.rule.specs.declared.Refusal.{Refusal}
-use Rattle.rule.specs.declared.Answer.TheVariants.{Refused}
+use Rattle.std.specs.Prelude.{Ok, Err}
 use Rattle.inputs.specs.Allowed.{VectorGets}
 use Rattle.inputs.specs.Inputs.{given}
 use Rattle.card.specs.declared.Session.{Session}
@@ -26,6 +26,6 @@ module _ (s : Session) (v : List ℕ) where
   unfolding steps_vector_of
   steps_refuses r g = gets_refused s.rested s v run.count (ran_session s run) r g
 
-  pub steps_refused : (r : Refusal) → (steps_vector_of s v).answer ≡ Refused r → VectorGets s.rested s.inputs v r × ((steps_vector_of s v).session ≡ s)
+  pub steps_refused : (r : Refusal) → (steps_vector_of s v).answer ≡ Err r → VectorGets s.rested s.inputs v r × ((steps_vector_of s v).session ≡ s)
   unfolding steps_vector_of
   steps_refused r e = refused_gets s.rested s v run.count (ran_session s run) r e

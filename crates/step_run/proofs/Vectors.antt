@@ -9,9 +9,8 @@ use Rattle.lists.proofs.Listed.{length_listed, listed_at, listed_ext}
 use Rattle.word.specs.Word.{word_of}
 use Rattle.rule.specs.Steps.{Step, step_list}
 use Rattle.rule.specs.declared.Refusal.{Refusal}
-use Rattle.rule.specs.declared.Answer.TheVariants.{Done}
-use Rattle.card_wiring.specs.declared.Verdict.{Verdict}
-use Rattle.card_wiring.specs.declared.Verdict.TheVariants.{Refused as Faulty, Passed}
+use Rattle.std.specs.Prelude.{Ok, Err}
+use Rattle.rule.specs.Answers.{Verdict}
 use Rattle.inputs.specs.Allowed.{Vector}
 use Rattle.inputs.specs.Inputs.{is_input_kind, given, vector_judged}
 use Rattle.inputs.proofs.Verdicts.{vector_judged_lem}
@@ -74,11 +73,11 @@ module _ (s : Session) where
 
   pub run_made : (new : ℕ → Bool) (ks : List Step) (left : Advanced) (before : List Bool) (next : Session)
       → left ≡ (let r = ran_along s new ks in record { words = histories_from s.sets r.words; count = r.count }) → before ≡ listed (ends s) 256
-      → next ≡ resting s s.rested before left.words → record { answer = Done left.count; session = next } ≡ ran_move s (ran_along s new ks)
+      → next ≡ resting s s.rested before left.words → record { answer = Ok left.count; session = next } ≡ ran_move s (ran_along s new ks)
   unfolding ran_session
   run_made new ks left before next el eb en =
-      ap (λ x. record { answer = Done left.count; session = x }) (en ∙ ap (λ b. resting s s.rested b left.words) eb)
-      ∙ ap (λ (x : Advanced). record { answer = Done x.count; session = resting s s.rested (listed (ends s) 256) x.words }) el
+      ap (λ x. record { answer = Ok left.count; session = x }) (en ∙ ap (λ b. resting s s.rested b left.words) eb)
+      ∙ ap (λ (x : Advanced). record { answer = Ok x.count; session = resting s s.rested (listed (ends s) 256) x.words }) el
 
   -- The answer
 
@@ -91,10 +90,10 @@ module _ (s : Session) where
     steps_takes e w = ap (λ x. moving s x along.count (ran_session s along)) (vector_judged_lem s.rested s.inputs v e w)
 
     module _ (x : Verdict) (e : x ≡ vector_judged s.rested s.inputs v) where
-      pub vector_refused_by : (why : Refusal) → x ≡ Faulty why → refused_move s why ≡ steps_vector_of s v
+      pub vector_refused_by : (why : Refusal) → x ≡ Err why → refused_move s why ≡ steps_vector_of s v
       unfolding steps_vector_of
       vector_refused_by = moving_refused s along.count (ran_session s along) x _ e
 
-      pub vector_run : x ≡ Passed → ran_move s along ≡ steps_vector_of s v
+      pub vector_run : x ≡ (Ok tt) → ran_move s along ≡ steps_vector_of s v
       unfolding steps_vector_of
       vector_run = moving_done s along.count (ran_session s along) x _ e (ran_session s along) refl

@@ -58,7 +58,7 @@ fn gather<'a>(
     let loose = rule::open_value();
     let mut known = read_at(vars, sets, places[g * 8], t, loose);
     for j in 1..count {
-        known = gate::with_bit(
+        known = gate::with_pin(
             ty,
             rule,
             known,
@@ -90,7 +90,7 @@ pub fn step<'a>(
     let ty = usize::from(types[g]);
     let rule = gate::rule_of(ty);
     let all = gather(vars, counts, places, sets, n, ty, rule, g, t);
-    let b = gate::gate_bit(rule, all);
+    let b = gate::gate_value(rule, all);
     vars[g] = word::put(vars[g], t, b);
 }
 

@@ -20,8 +20,8 @@ use Rattle.rule.specs.Cause.{first_pin, causes}
 use Rattle.rule.specs.Numbers.{answer_number, answer_count}
 use Rattle.rule.specs.declared.Refusal.{Refusal}
 use Rattle.rule.specs.declared.Refusal.TheVariants.{NotReady, NoSuchNet, NoChange, NoRoom}
-use Rattle.rule.specs.declared.Answer.{Answer}
-use Rattle.rule.specs.declared.Answer.TheVariants.{Done, Refused}
+use Rattle.rule.specs.Answers.{Answer}
+use Rattle.std.specs.Prelude.{Ok, Err}
 use Rattle.card.specs.Session.{card_of}
 use Rattle.card.specs.Held.{HasCard}
 use Rattle.card.specs.declared.Session.{Session}
@@ -50,12 +50,12 @@ module _ (s : Session) (n t : ℕ) where
 module _ (s : Session) (n t : ℕ) (room : List ℕ) where
   -- what trace writes
   abbrev pub written : Traced
-  written = record { answer = Done (t + 1); room = filled (λ i. get_or (way_back s n t) i 0) (t + 1) room }
+  written = record { answer = Ok (t + 1); room = filled (λ i. get_or (way_back s n t) i 0) (t + 1) room }
 
   -- its tests, one after another
   abbrev by_tests : Bool → Bool → Bool → Bool → Traced
   by_tests rested net changed fits =
-      cond rested (cond net (cond changed (cond fits written (unwritten room (Refused NoRoom))) (unwritten room (Refused NoChange))) (unwritten room (Refused NoSuchNet))) (unwritten room (Refused NotReady))
+      cond rested (cond net (cond changed (cond fits written (unwritten room (Err NoRoom))) (unwritten room (Err NoChange))) (unwritten room (Err NoSuchNet))) (unwritten room (Err NotReady))
 
   by_them : trace_of s n t room ≡ by_tests s.rested (ltb n s.nets) (changed_then s n t) (leb (t + 1) (length room))
   unfolding trace_of
@@ -64,16 +64,16 @@ module _ (s : Session) (n t : ℕ) (room : List ℕ) where
   at_net : s.rested ≡ true → n < s.nets → trace_of s n t room ≡ by_tests true true (changed_then s n t) (leb (t + 1) (length room))
   at_net e l = by_them ∙ ap₂ (λ b d. by_tests b d (changed_then s n t) (leb (t + 1) (length room))) e (lt-ltb n s.nets l)
 
-  pub gives_12 : s.rested ≡ false → trace_of s n t room ≡ unwritten room (Refused NotReady)
+  pub gives_12 : s.rested ≡ false → trace_of s n t room ≡ unwritten room (Err NotReady)
   gives_12 e = by_them ∙ ap (λ b. by_tests b (ltb n s.nets) (changed_then s n t) (leb (t + 1) (length room))) e
 
-  pub gives_13 : s.rested ≡ true → s.nets ≤ n → trace_of s n t room ≡ unwritten room (Refused NoSuchNet)
+  pub gives_13 : s.rested ≡ true → s.nets ≤ n → trace_of s n t room ≡ unwritten room (Err NoSuchNet)
   gives_13 e l = by_them ∙ ap₂ (λ b d. by_tests b d (changed_then s n t) (leb (t + 1) (length room))) e (le-ltb n s.nets l)
 
-  pub gives_14 : s.rested ≡ true → n < s.nets → changed_then s n t ≡ false → trace_of s n t room ≡ unwritten room (Refused NoChange)
+  pub gives_14 : s.rested ≡ true → n < s.nets → changed_then s n t ≡ false → trace_of s n t room ≡ unwritten room (Err NoChange)
   gives_14 e l k = at_net e l ∙ ap (λ b. by_tests true true b (leb (t + 1) (length room))) k
 
-  pub gives_18 : s.rested ≡ true → n < s.nets → changed_then s n t ≡ true → length room ≤ t → trace_of s n t room ≡ unwritten room (Refused NoRoom)
+  pub gives_18 : s.rested ≡ true → n < s.nets → changed_then s n t ≡ true → length room ≤ t → trace_of s n t room ≡ unwritten room (Err NoRoom)
   gives_18 e l k f = at_net e l ∙ ap₂ (by_tests true true) k (lt-leb (t + 1) (length room) (omega arith))
 
   pub gives_0 : s.rested ≡ true → n < s.nets → changed_then s n t ≡ true → t < length room → trace_of s n t room ≡ written
@@ -87,16 +87,16 @@ module _ (s : Session) (n t : ℕ) (room : List ℕ) where
       e ∙ filled_list (way_back s n t) room (omega arith) ∙ ap (λ m. filled (λ i. get_or (way_back s n t) i 0) m room) k
 
   pub traced : s.rested ≡ true → n < s.nets → changed_then s n t ≡ true → t < length room → (xs : List ℕ)
-      → xs ≡ sets room 0 (causes (card_of s) (moved_at s.before s.words) n t) → record { answer = Done (t + 1); room = xs } ≡ trace_of s n t room
-  traced e l k f xs ex = (λ i. record { answer = Done (t + 1); room = way_stored f xs ex i }) ∙ sym (gives_0 e l k f)
+      → xs ≡ sets room 0 (causes (card_of s) (moved_at s.before s.words) n t) → record { answer = Ok (t + 1); room = xs } ≡ trace_of s n t room
+  traced e l k f xs ex = (λ i. record { answer = Ok (t + 1); room = way_stored f xs ex i }) ∙ sym (gives_0 e l k f)
 
 -- Each number exactly when document 01 gives it: "Trace: 12, 13, 14, 18."
 
 pub data Ruling (s : Session) (n t : ℕ) (room : List ℕ) : Traced → Type 0 where
-  not_rested : s.rested ≡ false → Ruling s n t room (unwritten room (Refused NotReady))
-  no_net : s.rested ≡ true → s.nets ≤ n → Ruling s n t room (unwritten room (Refused NoSuchNet))
-  no_change : s.rested ≡ true → n < s.nets → changed_then s n t ≡ false → Ruling s n t room (unwritten room (Refused NoChange))
-  too_short : s.rested ≡ true → n < s.nets → changed_then s n t ≡ true → length room ≤ t → Ruling s n t room (unwritten room (Refused NoRoom))
+  not_rested : s.rested ≡ false → Ruling s n t room (unwritten room (Err NotReady))
+  no_net : s.rested ≡ true → s.nets ≤ n → Ruling s n t room (unwritten room (Err NoSuchNet))
+  no_change : s.rested ≡ true → n < s.nets → changed_then s n t ≡ false → Ruling s n t room (unwritten room (Err NoChange))
+  too_short : s.rested ≡ true → n < s.nets → changed_then s n t ≡ true → length room ≤ t → Ruling s n t room (unwritten room (Err NoRoom))
   done : s.rested ≡ true → n < s.nets → changed_then s n t ≡ true → t < length room → Ruling s n t room (written s n t room)
 
 module _ (s : Session) (n t : ℕ) (room : List ℕ) where
@@ -145,10 +145,10 @@ module _ (s : Session) (n t : ℕ) (room : List ℕ) where
   trace_13 = (reason 13, λ h. number_of _ (gives_13 s n t room h.0 h.1))
 
   -- "Every refusal returns its number and count 0, and changes neither session nor lent memory."
-  pub trace_refused : (r : Refusal) → left.answer ≡ Refused r → left ≡ unwritten room (Refused r)
+  pub trace_refused : (r : Refusal) → left.answer ≡ Err r → left ≡ unwritten room (Err r)
   trace_refused r e = go left ruled e
     where
-      go : (x : Traced) → Ruling s n t room x → x.answer ≡ Refused r → x ≡ unwritten room (Refused r)
+      go : (x : Traced) → Ruling s n t room x → x.answer ≡ Err r → x ≡ unwritten room (Err r)
       go x (not_rested p) q = ap (unwritten room) q
       go x (no_net p l) q = ap (unwritten room) q
       go x (no_change p l k) q = ap (unwritten room) q

@@ -6,8 +6,8 @@ use Rattle.rule.specs.Net.{at_pin}
 use Rattle.rule.specs.Flag.{changed_at}
 use Rattle.rule.specs.Cause.{causes}
 use Rattle.rule.specs.declared.Refusal.TheVariants.{NotReady, NoSuchNet, NoChange, NoRoom}
-use Rattle.rule.specs.declared.Answer.{Answer}
-use Rattle.rule.specs.declared.Answer.TheVariants.{Done, Refused}
+use Rattle.rule.specs.Answers.{Answer}
+use Rattle.std.specs.Prelude.{Ok, Err}
 use Rattle.card.specs.Session.{card_of, word_at, before_at}
 use Rattle.card.specs.declared.Session.{Session}
 
@@ -34,8 +34,8 @@ trace_of s n t room =
     (cond (ltb n s.nets)
     (cond (changed_then s n t)
     (cond (leb (t + 1) (length room))
-    (record { answer = Done (t + 1); room = filled (λ i. get_or (way_back s n t) i 0) (t + 1) room })
-    (kept (Refused NoRoom)))
-    (kept (Refused NoChange)))
-    (kept (Refused NoSuchNet)))
-    (kept (Refused NotReady))
+    (record { answer = Ok (t + 1); room = filled (λ i. get_or (way_back s n t) i 0) (t + 1) room })
+    (kept (Err NoRoom)))
+    (kept (Err NoChange)))
+    (kept (Err NoSuchNet)))
+    (kept (Err NotReady))

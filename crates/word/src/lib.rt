@@ -12,14 +12,14 @@ pub use pcset::PcSet;
 pub fn up(x: u64, low: bool) -> u64
     ensures { (t : ℕ) → t < 64 → bit result t ≡ moved_up low (bit x) t }
 {
-    (x << 1) | (low as u64)
+    (x << 1) | u64::from(low)
 }
 
 // The word whose bits are all b.
 pub fn spread(b: bool) -> u64
     ensures { (t : ℕ) → t < 64 → bit result t ≡ b }
 {
-    if b { 0xffff_ffff_ffff_ffff } else { 0 }
+    if b { u64::MAX } else { 0 }
 }
 
 // The word with b in bit t.

@@ -3,7 +3,7 @@ ghost use Rattle.std.specs.Prelude.{◌≡◌, false, ◌||◌, ◌&&◌, ℕ, �
 ghost use Rattle.word.specs.Word.{bit, moved_up};
 ghost use Rattle.word.specs.Times.{count, least, greatest, no_time, zero_in};
 
-#[derive(Clone, Copy)]
+#[derive(Clone, Copy, Debug, PartialEq, Eq)]
 pub struct PcSet {
     pub word: u64,
 }
@@ -40,14 +40,14 @@ impl PcSet {
     pub fn size(self) -> u32
         ensures { result ≡ count (bit self.word) 64 }
     {
-        u64::count_ones(self.word)
+        self.word.count_ones()
     }
 
     // The least time; 64 where the set is empty.
     pub fn least(self) -> u32
         ensures { result ≡ least (bit self.word) 64 }
     {
-        u64::trailing_zeros(self.word)
+        self.word.trailing_zeros()
     }
 
     // The largest time; 64 where the set is empty.
@@ -57,7 +57,7 @@ impl PcSet {
         if self.word == 0 {
             return 64;
         }
-        63 - u64::leading_zeros(self.word)
+        63 - self.word.leading_zeros()
     }
 
     // The times strictly below t.

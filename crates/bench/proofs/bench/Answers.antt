@@ -6,15 +6,15 @@ use Rattle.bench.proofs.bench.Goals as goal
 
 pub run_bench-requires : goal.run_bench-requires
 run_bench-requires c =
-    let fits = judged_vector c.args.s.rested c.args.s.inputs c.args.v.now (sym c.judge-verdict.ensures ∙ c.in-Passed.is) in
+    let fits = judged_vector c.args.s.rested c.args.s.inputs c.args.v.now (sym c.judge-verdict.ensures ∙ c.in-Ok.is) in
     record { good = c.requires; rested_value = (fits.0, fits.1.size) }
 
-pub returns-in-Refused : goal.returns-in-Refused
-returns-in-Refused c =
+pub returns-in-Err : goal.returns-in-Err
+returns-in-Err c =
     let a = c.args in
-    bench_refused_by a.s a.v.now a.order.now a.k a.room.now _ c.judge-verdict.ensures _ _ c.in-Refused.is c.refused.ensures
+    bench_refused_by a.s a.v.now a.order.now a.k a.room.now _ c.judge-verdict.ensures _ _ c.in-Err.is c.refused.ensures
 
-pub returns-in-Passed : goal.returns-in-Passed
-returns-in-Passed c =
+pub returns-in-Ok : goal.returns-in-Ok
+returns-in-Ok c =
     let a = c.args in
-    bench_run a.s a.v.now a.order.now a.k a.room.now _ c.judge-verdict.ensures _ c.in-Passed.is c.run_bench.ensures
+    bench_run a.s a.v.now a.order.now a.k a.room.now _ c.judge-verdict.ensures _ c.in-Ok.is c.run_bench.ensures

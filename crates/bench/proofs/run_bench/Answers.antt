@@ -36,25 +36,25 @@ judge_order-verdict-requires c =
 pub returns-then-total-k : goal.returns-then-total-k
 returns-then-total-k c =
     let a = c.args in
-    order_many a.s (given a.s.kinds a.v.now) a.order.now a.k a.room.now _ (judged (goal.at.returns-then-total-k c).After-judge_order-verdict) c.in-Passed.is _ (total_is (goal.at.returns-then-total-k c).After-put_list-total) _ c.if-total-k.true c.refused-then-total-k.ensures
+    order_many a.s (given a.s.kinds a.v.now) a.order.now a.k a.room.now _ (judged (goal.at.returns-then-total-k c).After-judge_order-verdict) c.in-Ok.is _ (total_is (goal.at.returns-then-total-k c).After-put_list-total) _ c.if-total-k.true c.refused-then-total-k.ensures
 
 pub returns-then-room-total : goal.returns-then-room-total
 returns-then-room-total c =
     let a = c.args in
-    order_short a.s (given a.s.kinds a.v.now) a.order.now a.k a.room.now _ (judged (goal.at.returns-then-room-total c).After-judge_order-verdict) c.in-Passed.is _ (total_is (goal.at.returns-then-room-total c).After-put_list-total) _ c.if-total-k.false c.if-room-total.true
+    order_short a.s (given a.s.kinds a.v.now) a.order.now a.k a.room.now _ (judged (goal.at.returns-then-room-total c).After-judge_order-verdict) c.in-Ok.is _ (total_is (goal.at.returns-then-room-total c).After-put_list-total) _ c.if-total-k.false c.if-room-total.true
     c.refused-then-room-total.ensures
 
 pub do_first-requires : goal.do_first-requires
 do_first-requires c =
-    record { good = c.requires.good; rested_value = c.requires.rested_value; taken = passed_taken c.args.s (card (goal.at.do_first-requires c).Start) c.put_list-total.ensures (search rules) (search rules) c.args.order.now _ c.judge_order-verdict.ensures c.in-Passed.is; first_le_total = (c.if-total-k.false, c.if-room-total.false) }
+    record { good = c.requires.good; rested_value = c.requires.rested_value; taken = passed_taken c.args.s (card (goal.at.do_first-requires c).Start) c.put_list-total.ensures (search rules) (search rules) c.args.order.now _ c.judge_order-verdict.ensures c.in-Ok.is; first_le_total = (c.if-total-k.false, c.if-room-total.false) }
 
-pub returns-in-Refused : goal.returns-in-Refused
-returns-in-Refused c =
+pub returns-in-Err : goal.returns-in-Err
+returns-in-Err c =
     let a = c.args in
-    order_faulty a.s (given a.s.kinds a.v.now) a.order.now a.k a.room.now _ (judged (goal.at.returns-in-Refused c).After-judge_order-verdict) _ _ c.in-Refused.is c.refused.ensures
+    order_faulty a.s (given a.s.kinds a.v.now) a.order.now a.k a.room.now _ (judged (goal.at.returns-in-Err c).After-judge_order-verdict) _ _ c.in-Err.is c.refused.ensures
 
 pub returns-else-room-total : goal.returns-else-room-total
 returns-else-room-total c =
     let a = c.args in
-    order_done a.s (given a.s.kinds a.v.now) a.order.now a.k a.room.now _ (judged (goal.at.returns-else-room-total c).After-judge_order-verdict) c.in-Passed.is _ (total_is (goal.at.returns-else-room-total c).After-put_list-total) _ c.if-total-k.false c.if-room-total.false
+    order_done a.s (given a.s.kinds a.v.now) a.order.now a.k a.room.now _ (judged (goal.at.returns-else-room-total c).After-judge_order-verdict) c.in-Ok.is _ (total_is (goal.at.returns-else-room-total c).After-put_list-total) _ c.if-total-k.false c.if-room-total.false
     c.do_first.ensures

@@ -21,18 +21,18 @@ counted c = record { counted = c.gates_back-levels.ensures; highest_is = c.highe
 
 pub returns-then-not-all_fit : goal.returns-then-not-all_fit
 returns-then-not-all_fit c =
-    c.refused.ensures ∙ wired_unfit c.args.counts.now c.args.places.now c.args.n (sym c.all_fit.ensures ∙ c.if-not-all_fit.true)
+    wired_unfit c.args.counts.now c.args.places.now c.args.n (sym c.all_fit.ensures ∙ c.if-not-all_fit.true)
 
 pub gates_back-levels-requires : goal.gates_back-levels-requires
 gates_back-levels-requires c = record { wires = c.requires; fitting = fits (goal.at.gates_back-levels-requires c).Else-not-all_fit }
 
 pub returns-then-n-depth : goal.returns-then-n-depth
 returns-then-n-depth c =
-    c.refused-then-n-depth.ensures ∙ wired_looped (fit (goal.at.returns-then-n-depth c).Else-not-all_fit) (counted (goal.at.returns-then-n-depth c).After-highest_of-depth) (omega arith)
+    wired_looped (fit (goal.at.returns-then-n-depth c).Else-not-all_fit) (counted (goal.at.returns-then-n-depth c).After-highest_of-depth) (omega arith)
 
 pub returns-then-depth-gt63 : goal.returns-then-depth-gt63
 returns-then-depth-gt63 c =
-    c.refused-then-depth-gt63.ensures ∙ wired_deep (fit (goal.at.returns-then-depth-gt63 c).Else-not-all_fit) (counted (goal.at.returns-then-depth-gt63 c).After-highest_of-depth) (counted (goal.at.returns-then-depth-gt63 c).After-highest_of-depth) (omega arith) (omega arith)
+    wired_deep (fit (goal.at.returns-then-depth-gt63 c).Else-not-all_fit) (counted (goal.at.returns-then-depth-gt63 c).After-highest_of-depth) (counted (goal.at.returns-then-depth-gt63 c).After-highest_of-depth) (omega arith) (omega arith)
 
 pub with_sets-requires : goal.with_sets-requires
 with_sets-requires c = record { wires = c.requires; fitting = fits (goal.at.with_sets-requires c).Else-not-all_fit; depth_bound = omega arith }

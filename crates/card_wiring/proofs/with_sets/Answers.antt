@@ -31,7 +31,7 @@ pub sizes_of-requires : goal.sizes_of-requires
 sizes_of-requires c = room (goal.at.sizes_of-requires c).After-by_level-by
 
 pub returns-then-sizes_of-gt4096 : goal.returns-then-sizes_of-gt4096
-returns-then-sizes_of-gt4096 c = c.refused.ensures ∙ sets_refused (along (goal.at.returns-then-sizes_of-gt4096 c).After-sizes_of) (omega arith)
+returns-then-sizes_of-gt4096 c = sets_refused (along (goal.at.returns-then-sizes_of-gt4096 c).After-sizes_of) (omega arith)
 
 pub returns : goal.returns
 returns c = sets_passed (along (goal.at.returns c).After-sizes_of) (omega arith)

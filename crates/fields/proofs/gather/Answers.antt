@@ -34,8 +34,8 @@ at_pin-requires c =
     let e = c.wide-count.ensures in
     pin_fitting c.args.counts.now c.args.places.now c.args.n c.args.g c.loop-j.j c.requires.wires c.requires.fitting (omega arith)
 
-pub with_word-known-requires : goal.with_word-known-requires
-with_word-known-requires c = c.requires.g_bound.2
+pub with_pin-known-requires : goal.with_pin-known-requires
+with_pin-known-requires c = c.requires.g_bound.2
 
 pub loop-j-preserved : goal.loop-j-preserved
 loop-j-preserved c =
@@ -45,7 +45,7 @@ loop-j-preserved c =
     let word = c.at_pin.ensures ∙ ap (λ loose. at_pin loose (λ m. get_or a.words.now m 0) p) c.open_word-open.ensures in (
       omega arith,
       omega arith,
-      λ t. gather_more (pin_bit a.words.now t) a.places.now a.g a.ty l.j _ _ _ (l.invariant.2 t) (ap (λ w. bit w t) word) (c.with_word-known.ensures t),
+      λ t. gather_more (pin_bit a.words.now t) a.places.now a.g a.ty l.j _ _ _ (l.invariant.2 t) (ap (λ w. bit w t) word) (c.with_pin-known.ensures t),
     )
 
 pub returns : goal.returns

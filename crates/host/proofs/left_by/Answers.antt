@@ -2,10 +2,10 @@
 use Rattle.host.proofs.Answering.{left_refused, left_done}
 use Rattle.host.proofs.left_by.Goals as goal
 
-pub returns-in-Refused : goal.returns-in-Refused
-returns-in-Refused c = let a = c.args in left_refused a.how a.b.now a.v.now a.answer _ c.pack.result c.in-Refused.is c.pack.ensures
+pub returns-in-Err : goal.returns-in-Err
+returns-in-Err c = let a = c.args in left_refused a.how a.b.now a.v.now a.answer _ c.pack.result c.in-Err.is c.pack.ensures
 
-pub returns-in-Done : goal.returns-in-Done
-returns-in-Done c =
+pub returns-in-Ok : goal.returns-in-Ok
+returns-in-Ok c =
     let a = c.args in
-    left_done a.how a.b.now a.v.now a.answer _ c.pack-in-Done.result _ c.in-Done.is c.pack-in-Done.ensures c.keep.ensures
+    left_done a.how a.b.now a.v.now a.answer _ c.pack-in-Ok.result _ c.in-Ok.is c.pack-in-Ok.ensures c.keep.ensures

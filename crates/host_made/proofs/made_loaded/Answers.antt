@@ -27,20 +27,20 @@ made_card-requires c =
     let e = loaded (goal.at.made_card-requires c).After-load-left in record {
       good = (
         subst (λ x. Good x.session) (sym e) (load_good none card none_good bytes),
-        subst (λ x. x.session.inputs ≤ 256) (sym e) (few_inputs card bytes _ (sym (ap (λ x. x.answer) e) ∙ c.in-Done.is)),
+        subst (λ x. x.session.inputs ≤ 256) (sym e) (few_inputs card bytes _ (sym (ap (λ x. x.answer) e) ∙ c.in-Ok.is)),
       );
       session_length_in_bounds = c.requires.0;
     }
 
-pub returns-in-Refused : goal.returns-in-Refused
-returns-in-Refused c =
+pub returns-in-Err : goal.returns-in-Err
+returns-in-Err c =
     let a = c.args in
-    let e = loaded (goal.at.returns-in-Refused c).After-load-left in
-    c.broken_session.ensures ∙ loaded_refused a.b.now a.len _ (sym (ap (λ x. x.answer) e) ∙ c.in-Refused.is)
+    let e = loaded (goal.at.returns-in-Err c).After-load-left in
+    c.broken_session.ensures ∙ loaded_refused a.b.now a.len _ (sym (ap (λ x. x.answer) e) ∙ c.in-Err.is)
 
-pub returns-in-Done : goal.returns-in-Done
-returns-in-Done c =
+pub returns-in-Ok : goal.returns-in-Ok
+returns-in-Ok c =
     let a = c.args in
-    let e = loaded (goal.at.returns-in-Done c).After-load-left in
+    let e = loaded (goal.at.returns-in-Ok c).After-load-left in
     c.made_card.ensures ∙ ap (λ x. made_card a.b.now x.session) e
-    ∙ loaded_is a.b.now a.len _ (sym (ap (λ x. x.answer) e) ∙ c.in-Done.is)
+    ∙ loaded_is a.b.now a.len _ (sym (ap (λ x. x.answer) e) ∙ c.in-Ok.is)

@@ -26,13 +26,13 @@ pub vector_by-requires : goal.vector_by-requires
 vector_by-requires c =
     subst (λ x. Good x.session) (sym c.rest-rested.ensures) (rest_good c.args.s c.requires.good.0 _)
 
-pub returns-in-Refused : goal.returns-in-Refused
-returns-in-Refused c =
+pub returns-in-Err : goal.returns-in-Err
+returns-in-Err c =
     let a = c.args in
-    c.broken_session-in-Refused.ensures ∙ moved_refused a.b.now a.s a.engine (fits (goal.at.returns-in-Refused c).After-rest-rested) c.rest-rested.result (rested (goal.at.returns-in-Refused c).After-rest-rested) _ c.in-Refused.is
+    c.broken_session-in-Err.ensures ∙ moved_refused a.b.now a.s a.engine (fits (goal.at.returns-in-Err c).After-rest-rested) c.rest-rested.result (rested (goal.at.returns-in-Err c).After-rest-rested) _ c.in-Err.is
 
-pub returns-in-Done : goal.returns-in-Done
-returns-in-Done c =
+pub returns-in-Ok : goal.returns-in-Ok
+returns-in-Ok c =
     let a = c.args in
     c.made_by.ensures ∙ ap made_by (rw part_of at c.vector_by.ensures)
-    ∙ moved_is a.b.now a.s a.engine (fits (goal.at.returns-in-Done c).After-rest-rested) c.rest-rested.result (rested (goal.at.returns-in-Done c).After-rest-rested) _ c.in-Done.is
+    ∙ moved_is a.b.now a.s a.engine (fits (goal.at.returns-in-Ok c).After-rest-rested) c.rest-rested.result (rested (goal.at.returns-in-Ok c).After-rest-rested) _ c.in-Ok.is

@@ -32,15 +32,15 @@ pub taken-requires : goal.taken-requires
 taken-requires c =
     let front = bytes_front c.card_end-at.result c.args.file.now
     (λ i. omega (arith, c.shared_slice_known-1.given i)) in
-    load_holds c.empty.result _ front c.load-loaded.result c.load-loaded.ensures _ c.in-Done.is
+    load_holds c.empty.result _ front c.load-loaded.result c.load-loaded.ensures _ c.in-Ok.is
 
-pub returns-in-Refused : goal.returns-in-Refused
-returns-in-Refused c =
+pub returns-in-Err : goal.returns-in-Err
+returns-in-Err c =
     let a = c.args in
-    hand_on a.out.now (refused_so c.load-loaded.result.answer a.sheet _ _ c.in-Refused.is ∙ loads (goal.at.returns-in-Refused c).After-load-loaded)
-    c.refused-in-Refused.ensures
+    hand_on a.out.now (refused_so c.load-loaded.result.answer a.sheet _ _ c.in-Err.is ∙ loads (goal.at.returns-in-Err c).After-load-loaded)
+    c.refused-in-Err.ensures
 
-pub returns-in-Done : goal.returns-in-Done
-returns-in-Done c =
+pub returns-in-Ok : goal.returns-in-Ok
+returns-in-Ok c =
     let a = c.args in
-    hand_on a.out.now (done_so c.load-loaded.result.answer a.sheet _ _ c.in-Done.is ∙ loads (goal.at.returns-in-Done c).After-load-loaded) c.taken.ensures
+    hand_on a.out.now (done_so c.load-loaded.result.answer a.sheet _ _ c.in-Ok.is ∙ loads (goal.at.returns-in-Ok c).After-load-loaded) c.taken.ensures

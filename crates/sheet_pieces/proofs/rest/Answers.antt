@@ -6,20 +6,20 @@ use Rattle.sheet_pieces.specs.Pieces.{moved_sheet, rest_piece}
 use Rattle.sheet_pieces.proofs.Steps.{hand_back, hand_on, refused_so, done_so}
 use Rattle.sheet_pieces.proofs.rest.Goals as goal
 
-pub returns-in-Refused : goal.returns-in-Refused
-returns-in-Refused c =
+pub returns-in-Err : goal.returns-in-Err
+returns-in-Err c =
     let a = c.args in
     hand_on a.out.now
-    (refused_so c.rest-moved.result.answer a.sheet _ _ c.in-Refused.is
+    (refused_so c.rest-moved.result.answer a.sheet _ _ c.in-Err.is
     ∙ ap (rest_piece a.sheet a.next) c.rest-moved.ensures)
     c.refused.ensures
 
-pub returns-in-Done : goal.returns-in-Done
-returns-in-Done c =
+pub returns-in-Ok : goal.returns-in-Ok
+returns-in-Ok c =
     let a = c.args in
     let m = c.rest-moved.result in
     hand_on a.out.now
     (done_so m.answer a.sheet (record { text = []; after = moved_sheet a.sheet m.session a.next a.sheet.vectors }) _
-    c.in-Done.is
+    c.in-Ok.is
     ∙ ap (rest_piece a.sheet a.next) c.rest-moved.ensures)
     (hand_back _ refl (put_none _ _))

@@ -26,27 +26,27 @@ put_vector-length-requires c =
     let e = c.vector-moved.ensures in record {
       good = subst (λ m. Good m.session) (sym e) (vector_good s c.requires.standing.good v);
       rested_value = (
-        ap (λ m. m.session.rested) e ∙ vector_rests s v _ (ap (λ m. m.answer) (sym e) ∙ c.in-Done.is),
+        ap (λ m. m.session.rested) e ∙ vector_rests s v _ (ap (λ m. m.answer) (sym e) ∙ c.in-Ok.is),
         c.requires.standing.deep c.requires.stage_value.0 ∙ ap depth (sym (ap (λ m. card_of m.session) e ∙ vector_card s v)),
       );
     }
 
-pub returns-in-Refused : goal.returns-in-Refused
-returns-in-Refused c =
+pub returns-in-Err : goal.returns-in-Err
+returns-in-Err c =
     let a = c.args in
     hand_on a.out.now
     (refused_so c.vector-moved.result.answer a.sheet _ _
-    c.in-Refused.is
+    c.in-Err.is
     ∙ ap (vector_piece a.sheet a.next) c.vector-moved.ensures)
     c.refused.ensures
 
-pub returns-in-Done : goal.returns-in-Done
-returns-in-Done c =
+pub returns-in-Ok : goal.returns-in-Ok
+returns-in-Ok c =
     let a = c.args in
     let m = c.vector-moved.result in
     let k = a.sheet.vectors + 1 in
     hand_on a.out.now
     (done_so m.answer a.sheet (record { text = vector_text k m.session; after = moved_sheet a.sheet m.session a.next k }) _
-    c.in-Done.is
+    c.in-Ok.is
     ∙ ap (vector_piece a.sheet a.next) c.vector-moved.ensures)
     (hand_back _ refl c.put_vector-length.ensures)

@@ -5,8 +5,8 @@ use Rattle.lists.specs.Entries.{every}
 use Rattle.word.specs.Word.{bit, word_of}
 use Rattle.rule.specs.Steps.{Step}
 use Rattle.rule.specs.declared.Refusal.TheVariants.{OrderLength, OrderEntry, OrderEarly}
-use Rattle.card_wiring.specs.declared.Verdict.{Verdict}
-use Rattle.card_wiring.specs.declared.Verdict.TheVariants.{Refused, Passed}
+use Rattle.rule.specs.Answers.{Verdict}
+use Rattle.std.specs.Prelude.{Ok, Err}
 use Rattle.step_vars.specs.Variables.{held_in, reads_in}
 use Rattle.step_vars.specs.Inner.Variables.{StepTime}
 use Rattle.step_orders.specs.Orders.{entries_fit}
@@ -39,6 +39,6 @@ unfoldable pub judged_in : List ℕ → List ℕ → List ℕ → List ℕ → L
 judged_in counts places sets nets times total order =
     cond (eqb (length order) total)
     (cond (entries_fit total order)
-    (cond (ready_in counts places sets (replicate 256 1) (order_steps nets times order)) Passed (Refused OrderEarly))
-    (Refused OrderEntry))
-    (Refused OrderLength)
+    (cond (ready_in counts places sets (replicate 256 1) (order_steps nets times order)) (Ok tt) (Err OrderEarly))
+    (Err OrderEntry))
+    (Err OrderLength)

@@ -10,9 +10,9 @@ use Rattle.inputs.specs.Inner.Starts.{tops_of}
 use Rattle.step_vars.specs.Variables.{histories_from}
 use Rattle.step_vars.specs.Inner.Variables.{StepTime, start_in}
 use Rattle.step_list.specs.Inner.Listing.{numbered_step}
-use Rattle.rule.specs.declared.Answer.TheVariants.{Done}
+use Rattle.std.specs.Prelude.{Ok, Err}
 use Rattle.card.specs.declared.Session.{Session}
-use Rattle.session.specs.declared.Moved.{Moved}
+use Rattle.session.specs.Moved.{Moved}
 use Rattle.step_run.specs.declared.Advanced.{Advanced}
 use Rattle.step_run.specs.Runs.{Ran, ran}
 use Rattle.step_run.specs.Vector.{ran_session}
@@ -33,4 +33,4 @@ stepped feeds types counts places sets ks words v =
 
 -- and what is handed back of it: the count is that of "the steps done"
 abbrev pub ran_move : Session → Ran → Moved
-ran_move s r = record { answer = Done r.count; session = ran_session s r }
+ran_move s r = record { answer = Ok r.count; session = ran_session s r }

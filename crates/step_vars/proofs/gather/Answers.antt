@@ -30,8 +30,8 @@ read_at-requires c =
     let e = c.from-count.ensures in
     (c.requires.g_bound.3, pin_fitting a.counts.now a.places.now a.n a.g c.loop-j.j c.requires.wires c.requires.fitting (omega arith))
 
-pub with_bit-known-requires : goal.with_bit-known-requires
-with_bit-known-requires c = c.requires.g_bound.2
+pub with_pin-known-requires : goal.with_pin-known-requires
+with_pin-known-requires c = c.requires.g_bound.2
 
 pub loop-j-preserved : goal.loop-j-preserved
 loop-j-preserved c =
@@ -40,7 +40,7 @@ loop-j-preserved c =
     let read = read_in a.sets.now a.t (get_or a.places.now (a.g * 8 + l.j) 0) in
     let value = c.read_at.ensures ∙ ap (λ loose. held_in loose a.vars.now read) c.open_value-loose.ensures in (
       omega arith,
-      gather_more (pin_value a.vars.now a.sets.now a.t) a.places.now a.g a.ty l.j _ _ _ l.invariant.1 value c.with_bit-known.ensures,
+      gather_more (pin_value a.vars.now a.sets.now a.t) a.places.now a.g a.ty l.j _ _ _ l.invariant.1 value (c.with_pin-known.ensures 0),
     )
 
 pub returns : goal.returns

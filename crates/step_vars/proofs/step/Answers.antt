@@ -16,8 +16,8 @@ returns c =
     let ty = c.from-ty in
     let rule = c.rule_of-rule in
     let all = c.gather-all in
-    let b = c.gate_bit-b in
+    let b = c.gate_value-b in
     step_made a.types.now a.counts.now a.places.now a.sets.now a.vars.now a.g a.t
     c.put.result b.result c.requires.gates.net c.requires.step_time.1
-    (value_made a.vars.now a.counts.now a.places.now a.sets.now a.g a.t a.types.now ty.result rule.result.inversion all.result b.result c.requires.gates ty.ensures rule.ensures.1 all.ensures b.ensures)
+    (value_made a.vars.now a.counts.now a.places.now a.sets.now a.g a.t a.types.now ty.result rule.result.inversion all.result b.result c.requires.gates ty.ensures rule.ensures.1 all.ensures (b.ensures 0 (omega arith)))
     (omega (arith, c.put.type_inv)) c.put.ensures
