@@ -1,7 +1,7 @@
 -- The measures of `trace::net_cause` and `trace::gate_cause` are twice the time, and for the net one more: the net asks its gate at the same time, and
 -- the gate a net one unit earlier.
 use Prim.Native.Nat.{◌+◌}
-use Rattle.trace.proofs.+gate_cause_net_cause.Given as goal
+use Rattle.trace.proofs.Run.+gate_cause_net_cause.Given as goal
 
 abbrev pub decreases-gate_cause : goal.decreases-gate_cause
 decreases-gate_cause l = l.t + l.t
