@@ -44,22 +44,15 @@ pub fn run_order<'a>(
         ≡ ran types.now counts.now places.now sets.now vars.old
         (ordered_steps nets.now times.now order.now k) }
 {
-    let mut i: usize = 0;
-    while i < k {
-        let e = card_wiring::wide16(order[i]);
-        step_vars::step(
-            vars,
-            types,
-            counts,
-            places,
-            sets,
-            n,
-            card_wiring::wide16(nets[e]),
-            step_vars::narrow(times[e]),
-        );
-        i += 1;
+    let mut done: usize = 0;
+    for &entry in &order[..k] {
+        let e = usize::from(entry);
+        let net = usize::from(nets[e]);
+        let time = u32::from(times[e]);
+        step_vars::step(vars, types, counts, places, sets, n, net, time);
+        done += 1;
     }
-    i
+    done
 }
 
 // The steps along the list, counted from 0.
@@ -83,17 +76,10 @@ pub fn run_list<'a>(
         (steps_named nets.now times.now total) }
 {
     let mut done: usize = 0;
-    while done < total {
-        step_vars::step(
-            vars,
-            types,
-            counts,
-            places,
-            sets,
-            n,
-            card_wiring::wide16(nets[done]),
-            step_vars::narrow(times[done]),
-        );
+    for e in 0..total {
+        let net = usize::from(nets[e]);
+        let time = u32::from(times[e]);
+        step_vars::step(vars, types, counts, places, sets, n, net, time);
         done += 1;
     }
     done
