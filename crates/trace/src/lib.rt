@@ -92,18 +92,18 @@ impl<'a> Run<'a> {
 }
 
 // The trace of a change of net n at time t to an input at time 0, t + 1 nets, into lent room.
-pub fn trace(s: Session, n: u64, t: u64, room: &mut [u16]) -> Answer
-    requires { Good s }
-    ensures { record { answer = result; room = room.new } ≡ trace_of s n t room.old }
+pub fn trace(s: &Session, n: u64, t: u64, room: &mut [u16]) -> Answer
+    requires { Good s.now }
+    ensures { record { answer = result; room = room.new } ≡ trace_of s.now n t room.old }
 {
     if !s.rested {
-        return Answer::Refused(Refusal::NotReady);
+        return Err(Refusal::NotReady);
     }
     if s.nets as u64 <= n {
-        return Answer::Refused(Refusal::NoSuchNet);
+        return Err(Refusal::NoSuchNet);
     }
     if 63 < t {
-        return Answer::Refused(Refusal::NoChange);
+        return Err(Refusal::NoChange);
     }
     let net = n as usize;
     let time = t as u32;
@@ -114,12 +114,12 @@ pub fn trace(s: Session, n: u64, t: u64, room: &mut [u16]) -> Answer
         places: &s.places,
     };
     if !run.moved(net, time) {
-        return Answer::Refused(Refusal::NoChange);
+        return Err(Refusal::NoChange);
     }
     let length = t as usize + 1;
     if room.len() < length {
-        return Answer::Refused(Refusal::NoRoom);
+        return Err(Refusal::NoRoom);
     }
     run.net_cause(net, time, room, 0);
-    Answer::Done(length)
+    Ok(length)
 }
