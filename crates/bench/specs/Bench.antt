@@ -14,7 +14,7 @@ use Rattle.rule.specs.Answers.{Verdict}
 use Rattle.inputs.specs.Inputs.{given, vector_judged}
 use Rattle.card.specs.declared.Session.{Session}
 use Rattle.card.specs.Session.{card_of}
-use Rattle.session.specs.declared.Moved.{Moved}
+use Rattle.session.specs.Moved.{Moved}
 use Rattle.step_orders.specs.Orders.{steps_of, order_judged}
 use Rattle.step_run.specs.Vector.{ran_along, ran_session}
 
@@ -47,7 +47,7 @@ bench_done s new order k room =
 
 abbrev pub bench_order : Session → (ℕ → Bool) → List ℕ → ℕ → List ℕ → Verdict → Benched
 bench_order s new order k room (Err why) = bench_refused s room why
-bench_order s new order k room (Ok tt) =
+bench_order s new order k room (Ok _) =
     cond (leb k (length (step_list (card_of s))))
     (cond (leb (length (step_list (card_of s))) (length room)) (bench_done s new order k room) (bench_refused s room NoRoom))
     (bench_refused s room TooManyAsked)

@@ -25,10 +25,8 @@ fn among(order: &[u16], k: usize) -> [bool; 4096]
     ensures { result ≡ listed (λ e. some (λ x. eqb x e) (take k order.now)) 4096 }
 {
     let mut out = [false; 4096];
-    let mut i: usize = 0;
-    while i < k {
-        out[card_wiring::wide16(order[i])] = true;
-        i += 1;
+    for &e in &order[..k] {
+        out[usize::from(e)] = true;
     }
     out
 }
@@ -37,6 +35,7 @@ fn among(order: &[u16], k: usize) -> [bool; 4096]
 const NOT_DONE: u8 = 2;
 
 // The byte of a step: its variable's value if it was done.
+#[tactic(auto, unfolding(crate::specs::Bench::not_done))]
 fn step_byte(done: bool, word: u64, t: u32) -> u8
     ensures { result ≡ cond done (val (bit word t)) not_done }
 {
@@ -44,7 +43,7 @@ fn step_byte(done: bool, word: u64, t: u32) -> u8
         return NOT_DONE;
     }
     let w = PcSet { word };
-    if w.has(t) { 1 } else { 0 }
+    u8::from(w.has(t))
 }
 
 // A byte for each step number, at the front of lent room.
@@ -60,11 +59,9 @@ fn put_bytes<'a>(
     ensures { room.new
         ≡ filled (byte_in vars.now nets.now times.now done.now) total room.old }
 {
-    let mut e: usize = 0;
-    while e < total {
-        let g = card_wiring::wide16(nets[e]);
-        room[e] = step_byte(done[e], vars[g], step_vars::narrow(times[e]));
-        e += 1;
+    for e in 0..total {
+        let g = usize::from(nets[e]);
+        room[e] = step_byte(done[e], vars[g], u32::from(times[e]));
     }
 }
 

@@ -8,7 +8,7 @@ use Rattle.card.specs.declared.Session.{Session}
 use Rattle.card.specs.Loaded.{Loaded}
 use Rattle.card.specs.Load.{load_of}
 use Rattle.card.specs.Asked.{net_asked}
-use Rattle.session.specs.declared.Moved.{Moved}
+use Rattle.session.specs.Moved.{Moved}
 use Rattle.session.specs.Moves.{rest_of}
 use Rattle.history.specs.Told.{Told, history_of}
 use Rattle.trace.specs.Traced.{Traced, trace_of}

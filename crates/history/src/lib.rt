@@ -72,26 +72,26 @@ fn put_flags<'a>(words: &'a [u64; 256], before: &'a [bool; 256], n: usize, room:
 }
 
 // The histories of the last vector, a word, a before value and a flag a net, into lent room.
-pub fn history(s: Session, words: &mut [u64], befores: &mut [u8], flags: &mut [u8]) -> Answer
-    requires { Good s }
+pub fn history(s: &Session, words: &mut [u64], befores: &mut [u8], flags: &mut [u8]) -> Answer
+    requires { Good s.now }
     ensures { record { answer = result; words = words.new; befores = befores.new; flags = flags.new }
-        ≡ history_of s words.old befores.old flags.old }
+        ≡ history_of s.now words.old befores.old flags.old }
 {
     if !s.rested {
-        return Answer::Refused(Refusal::NotReady);
+        return Err(Refusal::NotReady);
     }
     let n = s.nets;
     if words.len() < n {
-        return Answer::Refused(Refusal::NoRoom);
+        return Err(Refusal::NoRoom);
     }
     if befores.len() < n {
-        return Answer::Refused(Refusal::NoRoom);
+        return Err(Refusal::NoRoom);
     }
     if flags.len() < n {
-        return Answer::Refused(Refusal::NoRoom);
+        return Err(Refusal::NoRoom);
     }
     put_words(&s.words, n, words);
     put_befores(&s.before, n, befores);
     put_flags(&s.words, &s.before, n, flags);
-    Answer::Done(n)
+    Ok(n)
 }

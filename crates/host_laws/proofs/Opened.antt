@@ -23,7 +23,7 @@ use Rattle.card.specs.Load.{load_of, taken}
 use Rattle.card.specs.Allowed.{Accepted}
 use Rattle.card.proofs.Sessions.{taken_loaded}
 use Rattle.card.proofs.Verdicts.{load_takes, ruled as load-ruled, Ruling as LoadRuling, refuses as load_refuses, takes as load-allows}
-use Rattle.session.specs.declared.Moved.{Moved}
+use Rattle.session.specs.Moved.{Moved}
 use Rattle.session.specs.Good.{Good}
 use Rattle.session.specs.Moves.{moved_by, rested_by, rest_of}
 use Rattle.session.proofs.Kept.{taken_good, rested_good}

@@ -7,7 +7,7 @@ use Rattle.card.specs.declared.Session.{Session}
 use Rattle.card.specs.Loaded.{Loaded}
 use Rattle.card.specs.Session.{none}
 use Rattle.card.specs.Load.{load_of}
-use Rattle.session.specs.declared.Moved.{Moved}
+use Rattle.session.specs.Moved.{Moved}
 use Rattle.session.specs.Moves.{rest_of, vector_of}
 use Rattle.sheet_text.specs.declared.Entry.{Entry}
 use Rattle.sheet_text.specs.declared.Entry.TheVariants.{Nothing, Bad, Rest, Vector}

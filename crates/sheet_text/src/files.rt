@@ -9,10 +9,7 @@ use rule::Refusal;
 fn is_end(kind: usize, len: usize) -> bool
     ensures { result ≡ is_end kind len }
 {
-    if kind == 4 {
-        return len == 0;
-    }
-    false
+    kind == 4 && len == 0
 }
 
 // The place after the first end record, and the end of the file if there is none.
@@ -21,6 +18,7 @@ pub fn card_end(file: &[u8]) -> usize
 {
     let n = file.len();
     let mut at: usize = 0;
+    // A while: the place moves by the length that was read, which no range counts.
     while at + 4 <= n {
         let len = card_records::u16_at(file, at);
         let kind = card_records::u16_at(file, at + 2);

@@ -17,9 +17,8 @@ fn entries_fit(order: &[u16], total: usize) -> bool
     ensures { result ≡ entries_fit total order.now }
 {
     let mut seen = [false; 4096];
-    let mut i: usize = 0;
-    while i < order.len() {
-        let e = card_wiring::wide16(order[i]);
+    for &entry in order {
+        let e = usize::from(entry);
         if total <= e {
             return false;
         }
@@ -27,7 +26,6 @@ fn entries_fit(order: &[u16], total: usize) -> bool
             return false;
         }
         seen[e] = true;
-        i += 1;
     }
     true
 }
@@ -48,13 +46,10 @@ fn reads_done<'a>(
     ensures { result
         ≡ every (done_of done.now) (reads_in counts.now places.now sets.now (record { net = g; time = t })) }
 {
-    let count = card_wiring::wide(counts[g]);
-    let mut j: usize = 0;
-    while j < count {
+    for j in 0..usize::from(counts[g]) {
         if !step_vars::read_at(done, sets, places[g * 8 + j], t, true) {
             return false;
         }
-        j += 1;
     }
     true
 }
@@ -77,16 +72,14 @@ fn order_ready<'a>(
         (order_steps nets.now times.now order.now) }
 {
     let mut done = [1u64; 256];
-    let mut i: usize = 0;
-    while i < order.len() {
-        let e = card_wiring::wide16(order[i]);
-        let g = card_wiring::wide16(nets[e]);
-        let t = step_vars::narrow(times[e]);
+    for &entry in order {
+        let e = usize::from(entry);
+        let g = usize::from(nets[e]);
+        let t = u32::from(times[e]);
         if !reads_done(&done, counts, places, sets, n, g, t) {
             return false;
         }
         done[g] = word::put(done[g], t, true);
-        i += 1;
     }
     true
 }
