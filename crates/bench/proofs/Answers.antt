@@ -19,7 +19,7 @@ use Rattle.inputs.specs.Inputs.{given, vector_judged}
 use Rattle.card.specs.declared.Session.{Session}
 use Rattle.card.specs.Session.{card_of}
 use Rattle.card.specs.Held.{HasCard}
-use Rattle.session.specs.declared.Moved.{Moved}
+use Rattle.session.specs.Moved.{Moved}
 use Rattle.session.specs.Moves.{refused_move}
 use Rattle.step_orders.specs.Orders.{entries_fit, order_ready, order_judged}
 use Rattle.step_orders.specs.Inner.Ready.{StepEntry, judged_in}

@@ -14,7 +14,7 @@ use Rattle.rule.specs.Answers.{Verdict}
 use Rattle.inputs.specs.Inputs.{given, vector_judged}
 use Rattle.card.specs.declared.Session.{Session}
 use Rattle.card.specs.Session.{card_of}
-use Rattle.session.specs.declared.Moved.{Moved}
+use Rattle.session.specs.Moved.{Moved}
 use Rattle.step_orders.specs.Orders.{steps_of, order_judged}
 use Rattle.step_run.specs.Vector.{ran_along, ran_session}
 
@@ -54,7 +54,7 @@ bench_order s new order k room (Ok tt) =
 
 abbrev pub bench_vector : Session → List ℕ → List ℕ → ℕ → List ℕ → Verdict → Benched
 bench_vector s v order k room (Err why) = bench_refused s room why
-bench_vector s v order k room (Ok tt) = bench_order s (given s.kinds v) order k room (order_judged (card_of s) order)
+bench_vector s v order k room (Ok _) = bench_order s (given s.kinds v) order k room (order_judged (card_of s) order)
 
 -- "Bench run: 12, 10, 11, 15, 16, 17, 19, 18."
 unfoldable pub bench_of : Session → List ℕ → List ℕ → ℕ → List ℕ → Benched

@@ -203,13 +203,13 @@ unfolding net_asked
 asked_past s n e l = rw (e, le-ltb n s.nets l)
 
 pub asked_here : (s : Session) → HasCard s → (n l w : ℕ) → s.loaded ≡ true → n < s.nets
-    → l ≡ get_or (backs delay_at s.counts s.places (s.nets + 1)) n 0 → w ≡ get_or s.sets n 0 → Net l w ≡ net_asked s n
+    → l ≡ get_or (backs delay_at s.counts s.places (s.nets + 1)) n 0 → w ≡ get_or s.sets n 0 → Ok (record { level = l; word = w }) ≡ net_asked s n
 unfolding net_asked
 asked_here s h n l w e b el ew =
     let few = (card_fits s h).fits.few in
     let x : l ≡ level (card_of s) n = el ∙ card_levels s h n b in
     let y : w ≡ word_of 64 (pc_set (card_of s) n) = ew ∙ card_sets s h n (omega (arith, nets_are s h)) in
-    ap₂ Net x y ∙ rw (e, lt-ltb n s.nets b)
+    ap₂ (λ l w. Ok (record { level = l; word = w })) x y ∙ rw (e, lt-ltb n s.nets b)
 
 -- The depth and the number of steps of a card that is loaded
 

@@ -1,5 +1,5 @@
 -- A card that was read, laid out in arrays: what load's steps make of it. Assumes nothing.
-use mathlib.Core.Path.{◌≡◌, refl, sym, ap, ap₂, ◌∙◌, subst}
+use mathlib.Core.Path.{◌≡◌, refl, sym, ap, ◌∙◌, subst}
 use mathlib.Core.Bool.{cond}
 use mathlib.Core.List.{List}
 use Prim.Native.Nat.{ℕ, ◌+◌, ◌-◌, ◌<◌}
@@ -13,18 +13,17 @@ use Rattle.word.proofs.Sets.{count_cong, count_ends}
 use Rattle.rule.specs.Net.{Net, net_at, is_input, Pinned}
 use Rattle.rule.specs.declared.Refusal.{Refusal}
 use Rattle.rule.specs.declared.Refusal.TheVariants.{NoInput}
-use Rattle.std.specs.Prelude.{Ok, Err}
+use Rattle.std.specs.Prelude.{Result, Ok, Err}
 use Rattle.rule.proofs.Nets.{past_input}
-use Rattle.rule.specs.Answers.{Verdict}
 use Rattle.card_wiring.specs.declared.Wired.{Wired}
 use Rattle.card_wiring.specs.Layout.{kinds_of, types_of, counts_of, places_of}
 use Rattle.card_wiring.specs.Inner.Wires.{Fits, Wires}
-use Rattle.card_wiring.specs.Wired.{wired_of}
+use Rattle.card_wiring.specs.Wired.{set_words, verdict_of, wired_of}
 use Rattle.card_wiring.specs.Inner.Wired.{arrays_wired}
 use Rattle.card_wiring.proofs.Judged.{arrays_judged_lem as wired-judged, wired_passed}
 use Rattle.card_wiring.proofs.Layouts.{kind_input, wires_laid, kind_at, kind_past}
 use Rattle.inputs.specs.Inputs.{input_nets}
-use Rattle.card_records.specs.declared.Outcome.TheVariants.{Err, Read}
+use Rattle.card_records.specs.declared.Outcome.TheVariants.{Refused as Unread, Read}
 use Rattle.card_records.specs.declared.Parsed.{Parsed}
 use Rattle.card_records.specs.Written.{Bytes}
 use Rattle.card_records.specs.Scan.{Meaning, Stops, Means, meaning}
@@ -32,12 +31,15 @@ use Rattle.card_records.specs.Inner.Reading.{parsed_of}
 use Rattle.card_records.proofs.Fitted.{read_fits}
 use Rattle.card.specs.declared.Session.{Session}
 use Rattle.card.specs.Session.{inputs_of, session_of}
+use Rattle.rule.specs.declared.Refusal.{Refusal}
+use Rattle.rule.specs.Steps.{gate_order}
+use Rattle.card_wiring.specs.Layout.{padded}
 use Rattle.card.specs.Load.{refusal, concluded, judged, load_meant, load_of}
-use Rattle.card.specs.Inner.Arrays.{arrays_session, arrays_concluded, arrays_judged}
+use Rattle.card.specs.Inner.Arrays.{concluded_from, arrays_session, arrays_concluded, arrays_judged}
 
 -- What reading came to
 
-pub stopped_by : (m : Meaning) (r : Refusal) → (parsed_of m).outcome ≡ Err r → m ≡ Stops r
+pub stopped_by : (m : Meaning) (r : Refusal) → (parsed_of m).outcome ≡ Unread r → m ≡ Stops r
 stopped_by (Stops q) r e = let h : q ≡ r = cc in ap Stops h
 stopped_by (Means c) r e = let z : ◌≡◌ {A = ℕ} 0 1 = cc in absurd (omega arith)
 
@@ -87,20 +89,19 @@ pub record Laid (c : List Net) (n : ℕ) (kinds types counts places : List ℕ) 
 -- What the judgement's functions find of any arrays
 
 module _ (old : Session) (n : ℕ) (kinds types counts places : List ℕ) where
-  module _ (handed inputs : ℕ) (w : Wired) (wired : w ≡ arrays_wired counts places n) where
+  module _ (handed inputs : ℕ) (r : Result Wired Refusal) (wired : r ≡ arrays_wired counts places n) where
     abbrev fresh : List ℕ → Wired → Session
     fresh = arrays_session n inputs kinds types counts places
 
-    pub conclude_faulty : (r : Refusal) → w.verdict ≡ Err r → refusal old r ≡ arrays_concluded old handed inputs n kinds types counts places
+    pub conclude_faulty : (why : Refusal) → r ≡ Err why → refusal old why ≡ arrays_concluded old handed inputs n kinds types counts places
     unfolding arrays_concluded
-    conclude_faulty r e = ap (concluded old (fresh (input_nets kinds 256) (arrays_wired counts places n)) handed) (sym e ∙ ap (λ x. x.verdict) wired)
+    conclude_faulty why e = ap (concluded_from old (fresh (input_nets kinds 256)) handed) (sym e ∙ wired)
 
-    pub conclude_passed : w.verdict ≡ (Ok tt) → (feeds : List ℕ) → feeds ≡ input_nets kinds 256
+    pub conclude_passed : (w : Wired) → r ≡ Ok w → (feeds : List ℕ) → feeds ≡ input_nets kinds 256
         → record { answer = Ok handed; session = fresh feeds w } ≡ arrays_concluded old handed inputs n kinds types counts places
     unfolding arrays_concluded
-    conclude_passed e feeds fed =
-        ap₂ (λ f x. concluded old (fresh f x) handed (Ok tt)) fed wired
-        ∙ ap (concluded old (fresh (input_nets kinds 256) (arrays_wired counts places n)) handed) (sym e ∙ ap (λ x. x.verdict) wired)
+    conclude_passed w e feeds fed =
+        ap (λ f. concluded_from old (fresh f) handed (Ok w)) fed ∙ ap (concluded_from old (fresh (input_nets kinds 256)) handed) (sym e ∙ wired)
 
   module _ (inputs : ℕ) (counted : inputs ≡ count (λ g. eqb (get_or kinds g 0) 1) n) where
     pub judge_none : inputs ≡ 0 → refusal old NoInput ≡ arrays_judged old n kinds types counts places
@@ -115,19 +116,24 @@ module _ (old : Session) (n : ℕ) (kinds types counts places : List ℕ) where
 -- where a card is laid out in them it is the judgement of the card
 
 module _ (old : Session) (c : List Net) where
-  fresh_card : (wired_of c).verdict ≡ (Ok tt) → arrays_session (length c) (inputs_of c) (kinds_of c) (types_of c) (counts_of c) (places_of c) (input_nets (kinds_of c) 256) (wired_of c) ≡ session_of c
-  unfolding session_of
-  fresh_card e = ap (arrays_session (length c) (inputs_of c) (kinds_of c) (types_of c) (counts_of c) (places_of c) (input_nets (kinds_of c) 256)) (wired_passed c e)
+  fresh_card : Wired → Session
+  fresh_card = arrays_session (length c) (inputs_of c) (kinds_of c) (types_of c) (counts_of c) (places_of c) (input_nets (kinds_of c) 256)
 
-  concluded_card : (handed : ℕ) (v : Verdict) → (wired_of c).verdict ≡ v
-      → concluded old (arrays_session (length c) (inputs_of c) (kinds_of c) (types_of c) (counts_of c) (places_of c) (input_nets (kinds_of c) 256) (wired_of c)) handed v ≡ concluded old (session_of c) handed v
-  concluded_card handed (Err r) e = refl
-  concluded_card handed (Ok tt) e = ap (λ x. concluded old x handed (Ok tt)) (fresh_card e)
+  laid_fresh : (w : Wired) → wired_of c ≡ Ok w → fresh_card w ≡ session_of c
+  unfolding session_of fresh_card
+  laid_fresh w e =
+      let kept : w ≡ record { gates = length (gate_order c); order = padded (gate_order c); sets = set_words c } = let k = sym e ∙ wired_passed c (ap verdict_of e) in cc in
+      ap fresh_card kept
+
+  concluded_card : (handed : ℕ) (r : Result Wired Refusal) → wired_of c ≡ r
+      → concluded_from old fresh_card handed r ≡ concluded old (session_of c) handed (verdict_of r)
+  concluded_card handed (Err why) e = refl
+  concluded_card handed (Ok w) e = ap (λ x. record { answer = Ok handed; session = x }) (laid_fresh w e)
 
   judged_card : Fits c → Pinned c → arrays_judged old (length c) (kinds_of c) (types_of c) (counts_of c) (places_of c) ≡ judged old c
-  unfolding arrays_judged arrays_concluded judged
+  unfolding arrays_judged arrays_concluded judged fresh_card
   judged_card fits pinned =
-      rw (inputs_counted c fits, wired-judged c fits pinned) (ap (cond (eqb (inputs_of c) 0) (refusal old NoInput)) (concluded_card (length c) (wired_of c).verdict refl))
+      rw (inputs_counted c fits, wired-judged c fits pinned) (ap (cond (eqb (inputs_of c) 0) (refusal old NoInput)) (concluded_card (length c) (wired_of c) refl))
 
 pub judge_laid : (old : Session) {c : List Net} {n : ℕ} {kinds types counts places : List ℕ} → Laid c n kinds types counts places
     → arrays_judged old n kinds types counts places ≡ judged old c
@@ -137,7 +143,7 @@ judge_laid old {c} laid =
 -- Load, from what reading came to
 
 module _ (old : Session) (s : List ℕ) (p : Parsed) (parsed : p ≡ parsed_of (meaning s)) where
-  pub load_stopped : (r : Refusal) → p.outcome ≡ Err r → refusal old r ≡ load_of old s
+  pub load_stopped : (r : Refusal) → p.outcome ≡ Unread r → refusal old r ≡ load_of old s
   unfolding load_of
   load_stopped r e = sym (ap (load_meant old) (stopped_by (meaning s) r (ap (λ x. x.outcome) (sym parsed) ∙ e)))
 

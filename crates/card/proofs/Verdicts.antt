@@ -12,15 +12,15 @@ use Rattle.rule.specs.Level.{depth, Looped}
 use Rattle.rule.specs.Steps.{gate_order, step_list}
 use Rattle.rule.specs.declared.Refusal.{Refusal}
 use Rattle.rule.specs.declared.Refusal.TheVariants.{NoInput, NoSuchPin, Looped as LoopedCard, TooDeep, TooManySteps}
-use Rattle.std.specs.Prelude.{Ok, Err}
+use Rattle.std.specs.Prelude.{Result, Ok, Err}
 use Rattle.card_wiring.specs.declared.Wired.{Wired}
-use Rattle.card_wiring.specs.Wired.{pins_fit, most_back, set_words, passed_wiring, refused_wiring as faulty, wired_of}
+use Rattle.card_wiring.specs.Wired.{pins_fit, most_back, set_words, passed_wiring, refused_wiring as faulty, verdict_of, wired_of}
 use Rattle.card_records.specs.Scan.{Meaning, Stops, Means, meaning}
 use Rattle.card_records.specs.Written.{Bytes}
 use Rattle.card_records.proofs.Cards.{read_back, written, why, stops}
 use Rattle.card_records.proofs.Fitted.{read_fits}
 use Rattle.card.specs.declared.Session.{Session}
-use Rattle.card.specs.declared.Loaded.{Loaded}
+use Rattle.card.specs.Loaded.{Loaded}
 use Rattle.card.specs.Session.{inputs_of, session_of}
 use Rattle.card.specs.Load.{refusal, taken, concluded, judged, load_meant, load_of}
 use Rattle.card.specs.Allowed.{Fed, Deep, Long, Accepted, Allowed, Writes, LoadGets, gets_stopped, gets_9, gets_4, gets_5, gets_6, gets_7}
@@ -43,8 +43,8 @@ module _ (old : Session) (c : List Net) where
       ap (cond (eqb (inputs_of c) 0) (refusal old NoInput))
       (go (passed_wiring (gate_order c) (set_words c)) refl (pins_fit c) (ltb (length c) (most_back c)) (ltb 63 (depth c)) (ltb 4096 (length (step_list c))))
     where
-      go : (w : Wired) → w.verdict ≡ (Ok tt) → (a b d e : Bool)
-          → concluded old (session_of c) (length c) (cond a (cond b (faulty LoopedCard) (cond d (faulty TooDeep) (cond e (faulty TooManySteps) w))) (faulty NoSuchPin)).verdict
+      go : (w : Result Wired Refusal) → verdict_of w ≡ Ok tt → (a b d e : Bool)
+          → concluded old (session_of c) (length c) (verdict_of (cond a (cond b (faulty LoopedCard) (cond d (faulty TooDeep) (cond e (faulty TooManySteps) w))) (faulty NoSuchPin)))
           ≡ cond a (cond b (refusal old LoopedCard) (cond d (refusal old TooDeep) (cond e (refusal old TooManySteps) (taken c)))) (refusal old NoSuchPin)
       go w h false b d e = refl
       go w h true true d e = refl

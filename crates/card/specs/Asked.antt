@@ -14,7 +14,7 @@ use Rattle.card.specs.Session.{card_of}
 unfoldable pub net_asked : Session → ℕ → NetAnswer
 net_asked s n =
     cond s.loaded
-    (cond (ltb n s.nets) (Net (level (card_of s) n) (word_of 64 (pc_set (card_of s) n))) (Err NoSuchNet))
+    (cond (ltb n s.nets) (Ok (record { level = level (card_of s) n; word = word_of 64 (pc_set (card_of s) n) })) (Err NoSuchNet))
     (Err NotReady)
 
 -- depth and number of steps, and 0 where nothing is loaded

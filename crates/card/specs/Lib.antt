@@ -1,3 +1,4 @@
+pub mod Loaded
 pub mod Session
 pub mod Load
 pub mod Allowed

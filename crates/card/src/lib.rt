@@ -6,16 +6,15 @@ ghost use Rattle.word.specs.Word.{val};
 ghost use Rattle.word.specs.Times.{count};
 ghost use Rattle.card_wiring.specs.Inner.Wires.{Wires};
 ghost use Rattle.card.specs.Session.{none};
-ghost use Rattle.card.specs.Load.{refusal, load_of};
+ghost use Rattle.card.specs.Load.{load_of};
 ghost use Rattle.card.specs.Inner.Arrays.{arrays_concluded, arrays_judged};
 ghost use Rattle.card.specs.Held.{Carded};
 ghost use Rattle.card.specs.Asked.{net_asked, depth_asked, steps_asked};
 
 use card_records::Outcome;
-use card_wiring::Verdict;
-use rule::{Answer, NetAnswer, Refusal};
+use rule::{Answer, NetAnswer, NetFacts, Refusal};
 
-// A card, laid out in arrays, its rest and the histories of the last vector. The operations take it by value and hand it back.
+// A card, laid out in arrays, its rest and the histories of the last vector. The operations borrow it, and leave it as it stood where they refuse.
 #[derive(Clone, Copy)]
 pub struct Session {
     // A card is loaded; it is rested.
@@ -63,21 +62,6 @@ pub fn empty() -> Session
     }
 }
 
-#[derive(Clone, Copy)]
-pub struct Loaded {
-    pub answer: Answer,
-    pub session: Session,
-}
-
-fn refused(old: Session, why: Refusal) -> Loaded
-    ensures { result ≡ refusal old why }
-{
-    Loaded {
-        answer: Answer::Refused(why),
-        session: old,
-    }
-}
-
 fn one_if_input(kind: u8) -> usize
     ensures { result ≡ val (eqb kind 1) }
 {
@@ -101,7 +85,7 @@ pub fn inputs_below(kinds: &[u8; 256], n: usize) -> usize
 // A card laid out in arrays, that has so many inputs: what the wiring's judgement gives, 4, 5, 6, 7; else it replaces the old one, and a count
 // is handed back.
 fn conclude<'a>(
-    old: Session,
+    session: &mut Session,
     count: usize,
     inputs: usize,
     n: usize,
@@ -109,93 +93,90 @@ fn conclude<'a>(
     types: &'a [u8; 256],
     counts: &'a [u8; 256],
     places: &'a [u16; 2048],
-) -> Loaded
+) -> Answer
     requires { Wires counts.now places.now n }
-    ensures { result ≡ arrays_concluded old count inputs n kinds.now types.now counts.now places.now }
+    ensures { record { answer = result; session = session.new }
+        ≡ arrays_concluded session.old count inputs n kinds.now types.now counts.now places.now }
 {
-    let w = card_wiring::wire(counts, places, n);
-    let verdict = w.verdict;
-    match verdict {
-        Verdict::Refused(why) => refused(old, why),
-        Verdict::Passed => {
-            let order = w.order;
-            let sets = w.sets;
-            let feeds = inputs::input_nets(kinds);
-            Loaded {
-                answer: Answer::Done(count),
-                session: Session {
-                    loaded: true,
-                    rested: false,
-                    nets: n,
-                    inputs,
-                    gates: w.gates,
-                    kinds: *kinds,
-                    types: *types,
-                    counts: *counts,
-                    places: *places,
-                    order,
-                    feeds,
-                    sets,
-                    before: [false; 256],
-                    words: [0; 256],
-                },
-            }
-        }
-    }
+    let wired = card_wiring::wire(counts, places, n)?;
+    let order = wired.order;
+    let sets = wired.sets;
+    // "not yet rested"; "All 256 fields start cleared when a card is loaded"
+    let (rested, words) = (false, [0u64; 256]);
+    *session = Session {
+        loaded: true,
+        rested,
+        nets: n,
+        inputs,
+        gates: wired.gates,
+        kinds: *kinds,
+        types: *types,
+        counts: *counts,
+        places: *places,
+        order,
+        feeds: inputs::input_nets(kinds),
+        sets,
+        before: [false; 256],
+        words,
+    };
+    Ok(count)
 }
 
 // A card that was read, laid out in arrays: 9, then 4, 5, 6, 7; else it replaces the old one.
 fn judge<'a>(
-    old: Session,
+    session: &mut Session,
     n: usize,
     kinds: &'a [u8; 256],
     types: &'a [u8; 256],
     counts: &'a [u8; 256],
     places: &'a [u16; 2048],
-) -> Loaded
+) -> Answer
     requires { Wires counts.now places.now n }
-    ensures { result ≡ arrays_judged old n kinds.now types.now counts.now places.now }
+    ensures { record { answer = result; session = session.new }
+        ≡ arrays_judged session.old n kinds.now types.now counts.now places.now }
 {
     let inputs = inputs_below(kinds, n);
     if inputs == 0 {
-        return refused(old, Refusal::NoInput);
+        return Err(Refusal::NoInput);
     }
-    conclude(old, n, inputs, n, kinds, types, counts, places)
+    conclude(session, n, inputs, n, kinds, types, counts, places)
 }
 
 // A card from any bytes: it replaces the old one, or is refused and leaves it.
-pub fn load(old: Session, s: &[u8]) -> Loaded
-    ensures { result ≡ load_of old s.now }
+pub fn load(session: &mut Session, bytes: &[u8]) -> Answer
+    ensures { record { answer = result; session = session.new } ≡ load_of session.old bytes.now }
 {
-    let p = card_records::parse(s);
+    let p = card_records::parse(bytes);
     let outcome = p.outcome;
     match outcome {
-        Outcome::Refused(why) => refused(old, why),
-        Outcome::Read(n) => judge(old, n, &p.kinds, &p.types, &p.counts, &p.places),
+        Outcome::Refused(why) => Err(why),
+        Outcome::Read(n) => judge(session, n, &p.kinds, &p.types, &p.counts, &p.places),
     }
 }
 
 // A net's level, worked out from the wiring at each asking, and its PC-set.
-pub fn ask_net(s: Session, n: u64) -> NetAnswer
-    requires { Carded s }
-    ensures { result ≡ net_asked s n }
+pub fn ask_net(s: &Session, n: u64) -> NetAnswer
+    requires { Carded s.now }
+    ensures { result ≡ net_asked s.now n }
 {
     if !s.loaded {
-        return NetAnswer::Refused(Refusal::NotReady);
+        return Err(Refusal::NotReady);
     }
-    let nets = s.nets;
-    if nets as u64 <= n {
-        return NetAnswer::Refused(Refusal::NoSuchNet);
+    if s.nets as u64 <= n {
+        return Err(Refusal::NoSuchNet);
     }
     let at = n as usize;
-    let levels = card_wiring::gates_back(&s.counts, &s.places, nets);
-    NetAnswer::Net(levels[at], s.sets[at])
+    let levels = card_wiring::gates_back(&s.counts, &s.places, s.nets);
+    Ok(NetFacts {
+        level: levels[at],
+        word: s.sets[at],
+    })
 }
 
 // The depth of a session's card; 0 where nothing is loaded.
-pub fn depth_of(s: Session) -> usize
-    requires { Carded s }
-    ensures { result ≡ depth_asked s }
+pub fn depth_of(s: &Session) -> usize
+    requires { Carded s.now }
+    ensures { result ≡ depth_asked s.now }
 {
     if !s.loaded {
         return 0;
@@ -205,9 +186,9 @@ pub fn depth_of(s: Session) -> usize
 }
 
 // The length of its step list; 0 where nothing is loaded.
-pub fn steps_of(s: Session) -> usize
-    requires { Carded s }
-    ensures { result ≡ steps_asked s }
+pub fn steps_of(s: &Session) -> usize
+    requires { Carded s.now }
+    ensures { result ≡ steps_asked s.now }
 {
     if !s.loaded {
         return 0;

@@ -48,7 +48,7 @@ load_keeps s b = by_meaning (meaning b)
     by_verdict : (c : List Net) (t : Bool) (w : Verdict) → let l = cond t (refusal s NoInput) (concluded s (session_of c) (length c) w) in Refusing s (slices []) (answered l.answer l.session (slices []))
     by_verdict c true w = refuses NoInput
     by_verdict c false (Err why) = refuses why
-    by_verdict c false (Ok tt) = does (length c)
+    by_verdict c false (Ok _) = does (length c)
 
     by_meaning : (m : Meaning) → let l = load_meant s m in Refusing s (slices []) (answered l.answer l.session (slices []))
     by_meaning (Stops why) = refuses why
@@ -57,7 +57,7 @@ load_keeps s b = by_meaning (meaning b)
 -- an operation that takes a vector
 moves_keep : (s next : Session) (verdict : Verdict) (k : ℕ) → let m = moving s verdict k next in Refusing s (slices []) (answered m.answer m.session (slices []))
 moves_keep s next (Err why) k = refuses why
-moves_keep s next (Ok tt) k = does k
+moves_keep s next (Ok _) k = does k
 
 vector_keeps : (s : Session) (e : Engine) (v : List ℕ) → Refusing s (slices []) (outcome s (vector e v))
 unfolding vector_of steps_vector_of
@@ -143,11 +143,11 @@ bench_keeps s v order k room = go (vector_judged s.rested s.inputs v)
     by_order : (j : Verdict)
         → let b = bench_order s (given s.kinds v) order k room j in Refusing s (slices (room ∷ [])) (answered b.moved.answer b.moved.session (slices (b.room ∷ [])))
     by_order (Err why) = refuses why
-    by_order (Ok tt) = by_limits (leb k (length (step_list (card_of s)))) (leb (length (step_list (card_of s))) (length room))
+    by_order (Ok _) = by_limits (leb k (length (step_list (card_of s)))) (leb (length (step_list (card_of s))) (length room))
 
     go : (x : Verdict) → let b = bench_vector s v order k room x in Refusing s (slices (room ∷ [])) (answered b.moved.answer b.moved.session (slices (b.room ∷ [])))
     go (Err why) = refuses why
-    go (Ok tt) = by_order (order_judged (card_of s) order)
+    go (Ok _) = by_order (order_judged (card_of s) order)
 
 pub keeps : (s : Session) (o : Operation) → Refusing s (lent_to o) (outcome s o)
 keeps s (load b) = load_keeps s b

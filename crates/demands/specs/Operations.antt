@@ -5,10 +5,10 @@ use Rattle.rule.specs.Answers.{NetAnswer}
 use Rattle.rule.specs.Numbers.{answer_number, answer_count, net_number, net_level, net_word}
 use Rattle.card_records.specs.Written.{Bytes}
 use Rattle.card.specs.declared.Session.{Session}
-use Rattle.card.specs.declared.Loaded.{Loaded}
+use Rattle.card.specs.Loaded.{Loaded}
 use Rattle.card.specs.Load.{load_of}
 use Rattle.card.specs.Asked.{net_asked}
-use Rattle.session.specs.declared.Moved.{Moved}
+use Rattle.session.specs.Moved.{Moved}
 use Rattle.session.specs.Moves.{rest_of}
 use Rattle.history.specs.Told.{Told, history_of}
 use Rattle.trace.specs.Traced.{Traced, trace_of}

@@ -2,10 +2,10 @@
 // what stands where. A slice of zeros is the empty session.
 #![tactic(auto)]
 
-ghost use Rattle.std.specs.Prelude.{◌≡◌, ◌≤◌, length, get_or};
+ghost use Rattle.std.specs.Prelude.{◌≡◌, ◌≤◌, length};
 ghost use Rattle.lists.specs.Places.{clear, area};
 ghost use Rattle.host_bytes.specs.Layout.{session_length};
-ghost use Rattle.host_bytes.specs.Kept.{last_room, mark_of, kept_card, kept_rest, kept_vector, kept_by};
+ghost use Rattle.host_bytes.specs.Kept.{state_of, byte_of, moved_state, kept_card, kept_rest, kept_vector, kept_by};
 
 use operations::{Engine, Move};
 
@@ -22,25 +22,62 @@ pub const CARD_TO: usize = CARD_AT + LONGEST_CARD;
 
 pub const SESSION_LENGTH: usize = CARD_TO;
 
+// What byte 0 says is kept: nothing, a card, a card at rest, or a card that a vector moved, by which engine.
+#[derive(Clone, Copy, Debug, PartialEq, Eq)]
+pub enum State {
+    Empty = 0,
+    Loaded = 1,
+    Rested = 2,
+    Fields = 3,
+    Steps = 4,
+}
+
+// A byte that no state has.
+#[derive(Clone, Copy, Debug, PartialEq, Eq)]
+pub struct NoState;
+
+impl TryFrom<u8> for State {
+    type Error = NoState;
+
+    ghost try_from_gives = { λ byte r. r ≡ state_of byte };
+
+    fn try_from(byte: u8) -> Result<State, NoState> {
+        match byte {
+            0 => Ok(State::Empty),
+            1 => Ok(State::Loaded),
+            2 => Ok(State::Rested),
+            3 => Ok(State::Fields),
+            4 => Ok(State::Steps),
+            _ => Err(NoState),
+        }
+    }
+}
+
+impl From<State> for u8 {
+    ghost from_gives = { λ state byte. byte ≡ byte_of state };
+
+    fn from(state: State) -> u8 {
+        state as u8
+    }
+}
+
+impl From<Engine> for State {
+    ghost from_gives = { λ engine state. state ≡ moved_state engine };
+
+    fn from(engine: Engine) -> State {
+        match engine {
+            Engine::Fields => State::Fields,
+            Engine::Steps => State::Steps,
+        }
+    }
+}
+
 // Whether the bytes from one place to another are all 0.
 pub fn is_clear(b: &[u8], from: usize, to: usize) -> bool
     requires { to ≤ length b.now }
     ensures { result ≡ clear b.now from to }
 {
-    let mut i = from;
-    while i < to {
-        if b[i] != 0 {
-            return false;
-        }
-        i += 1;
-    }
-    true
-}
-
-fn byte_at(v: &[u8], i: usize) -> u8
-    ensures { result ≡ get_or v.now i 0 }
-{
-    if i < v.len() { v[i] } else { 0 }
+    b[..to].iter().skip(from).all(|x| *x == 0)
 }
 
 // The bytes of a list from one place to another, and 0 past its end.
@@ -48,25 +85,10 @@ fn put_area(b: &mut [u8], at: usize, to: usize, v: &[u8])
     requires { (at ≤ to) × (to ≤ length b.old) }
     ensures { b.new ≡ area b.old at to v.now }
 {
-    let mut i = at;
-    while i < to {
-        b[i] = byte_at(v, i - at);
-        i += 1;
-    }
-}
-
-// The room of the last vector.
-fn last_room(b: &[u8]) -> [u8; 256]
-    requires { session_length ≤ length b.now }
-    ensures { result ≡ last_room b.now }
-{
-    let mut out = [0u8; 256];
-    let mut i: usize = 0;
-    while i < 256 {
-        out[i] = b[LAST_AT + i];
-        i += 1;
-    }
-    out
+    let room = &mut b[at..to];
+    let n = v.len().min(room.len());
+    room[..n].copy_from_slice(&v[..n]);
+    room[n..].fill(0);
 }
 
 // A card that was just loaded: its bytes, and no vector.
@@ -74,11 +96,9 @@ fn keep_card(b: &mut [u8], card: &[u8])
     requires { session_length ≤ length b.old }
     ensures { b.new ≡ kept_card b.old card.now }
 {
-    let len = card.len();
-    let head = [1u8, (len % 256) as u8, (len / 256 % 256) as u8];
-    let none = [0u8; 1];
-    put_area(b, 0, OLDER_AT, &head);
-    put_area(b, OLDER_AT, CARD_AT, &none);
+    let [low, high, ..] = card.len().to_le_bytes();
+    b[..OLDER_AT].copy_from_slice(&[u8::from(State::Loaded), low, high]);
+    b[OLDER_AT..CARD_AT].fill(0);
     put_area(b, CARD_AT, CARD_TO, card);
 }
 
@@ -87,21 +107,9 @@ fn keep_rest(b: &mut [u8], v: &[u8])
     requires { session_length ≤ length b.old }
     ensures { b.new ≡ kept_rest b.old v.now }
 {
-    let state = [2u8; 1];
-    let none = [0u8; 1];
-    put_area(b, 0, 1, &state);
-    put_area(b, OLDER_AT, LAST_AT, &none);
+    b[0] = u8::from(State::Rested);
+    b[OLDER_AT..LAST_AT].fill(0);
     put_area(b, LAST_AT, CARD_AT, v);
-}
-
-// What byte 0 says of a card that a vector moved: by which engine.
-fn mark(engine: Engine) -> u8
-    ensures { result ≡ mark_of engine }
-{
-    match engine {
-        Engine::Fields => 3,
-        Engine::Steps => 4,
-    }
 }
 
 // A card that a vector just moved: the vector, and the last one before it.
@@ -109,11 +117,8 @@ pub fn keep_vector(b: &mut [u8], engine: Engine, v: &[u8])
     requires { session_length ≤ length b.old }
     ensures { b.new ≡ kept_vector engine b.old v.now }
 {
-    let by = mark(engine);
-    let state = [by; 1];
-    let last = last_room(b);
-    put_area(b, 0, 1, &state);
-    put_area(b, OLDER_AT, LAST_AT, &last);
+    b[0] = u8::from(State::from(engine));
+    b.copy_within(LAST_AT..CARD_AT, OLDER_AT);
     put_area(b, LAST_AT, CARD_AT, v);
 }
 

@@ -17,12 +17,12 @@ use Rattle.rule.specs.Numbers.{answer_number, answer_count}
 use Rattle.inputs.specs.Inputs.{given}
 use Rattle.card_records.specs.Written.{Bytes}
 use Rattle.card.specs.declared.Session.{Session}
-use Rattle.card.specs.declared.Loaded.{Loaded}
+use Rattle.card.specs.Loaded.{Loaded}
 use Rattle.card.specs.Session.{none}
 use Rattle.card.specs.Load.{load_of}
 use Rattle.card.proofs.Kept.{nets_are, card_fits, card_steps}
 use Rattle.card.proofs.Verdicts.{ruled as load-ruled, Ruling as LoadRuling, refuses as load_refuses, takes as load_takes}
-use Rattle.session.specs.declared.Moved.{Moved}
+use Rattle.session.specs.Moved.{Moved}
 use Rattle.session.specs.Good.{Good}
 use Rattle.session.specs.Moves.{moved_by, rested_by, rest_of}
 use Rattle.session.proofs.Refusals.{Ruling, refuses, takes, rest_ruled}

@@ -17,13 +17,13 @@ use Rattle.inputs.specs.Allowed.{Vector}
 use Rattle.card_records.specs.Bytes.{u16_at}
 use Rattle.card_records.specs.Written.{Bytes, card_bytes}
 use Rattle.card.specs.declared.Session.{Session}
-use Rattle.card.specs.declared.Loaded.{Loaded}
+use Rattle.card.specs.Loaded.{Loaded}
 use Rattle.card.specs.Session.{none, session_of}
 use Rattle.card.specs.Load.{load_of, taken}
 use Rattle.card.specs.Allowed.{Accepted}
 use Rattle.card.proofs.Sessions.{taken_loaded}
 use Rattle.card.proofs.Verdicts.{load_takes, ruled as load-ruled, Ruling as LoadRuling, refuses as load_refuses, takes as load-allows}
-use Rattle.session.specs.declared.Moved.{Moved}
+use Rattle.session.specs.Moved.{Moved}
 use Rattle.session.specs.Good.{Good}
 use Rattle.session.specs.Moves.{moved_by, rested_by, rest_of}
 use Rattle.session.proofs.Kept.{taken_good, rested_good}

@@ -18,7 +18,7 @@ use Rattle.card.specs.Load.{load_of}
 use Rattle.card.proofs.Sessions.{inputs_few}
 use Rattle.card.proofs.Verdicts.{load_taken}
 use Rattle.session.specs.Good.{Good}
-use Rattle.session.specs.declared.Moved.{Moved}
+use Rattle.session.specs.Moved.{Moved}
 use Rattle.session.specs.Moves.{rest_of}
 use Rattle.session.proofs.Kept.{none_good, load_good, rest_good}
 use Rattle.operations.specs.declared.Engine.{Engine}

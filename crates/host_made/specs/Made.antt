@@ -7,7 +7,7 @@ use Rattle.card_records.specs.Bytes.{u16_at}
 use Rattle.card.specs.declared.Session.{Session}
 use Rattle.card.specs.Session.{none}
 use Rattle.card.specs.Load.{load_of}
-use Rattle.session.specs.declared.Moved.{Moved}
+use Rattle.session.specs.Moved.{Moved}
 use Rattle.session.specs.Moves.{rest_of}
 use Rattle.operations.specs.declared.Engine.{Engine}
 use Rattle.operations.specs.declared.Engine.TheVariants.{Fields, Steps}

@@ -8,8 +8,8 @@ ghost use Rattle.word.specs.Word.{bit, word_of};
 ghost use Rattle.inputs.specs.Inputs.{byte_fits, input_nets, vector_judged};
 ghost use Rattle.inputs.specs.Inner.Starts.{constant_at, tops_of, byte_word, nets_put};
 
-use card_wiring::Verdict;
-use rule::Refusal;
+use rule::{Refusal, Verdict};
+use std::array;
 
 // A vector byte is 0 or 1: it is below this.
 const BYTE_LIMIT: u8 = 2;
@@ -20,13 +20,11 @@ pub fn input_nets<'a>(kinds: &'a [u8; 256]) -> [u16; 256]
 {
     let mut nets = [0u16; 256];
     let mut j: usize = 0;
-    let mut n: usize = 0;
-    while n < 256 {
-        if kinds[n] == 1 {
-            nets[j] = n as u16;
+    for n in 0u16..256 {
+        if kinds[usize::from(n)] == 1 {
+            nets[j] = n;
             j += 1;
         }
-        n += 1;
     }
     nets
 }
@@ -35,14 +33,7 @@ pub fn input_nets<'a>(kinds: &'a [u8; 256]) -> [u16; 256]
 pub fn bytes_fit(v: &[u8]) -> bool
     ensures { result ≡ every byte_fits v.now }
 {
-    let mut i: usize = 0;
-    while i < v.len() {
-        if BYTE_LIMIT <= v[i] {
-            return false;
-        }
-        i += 1;
-    }
-    true
+    v.iter().all(|byte| *byte < BYTE_LIMIT)
 }
 
 // What every operation that takes a vector asks of it first: 12 where it is not ready, then 10, 11.
@@ -50,43 +41,43 @@ pub fn judge(ready: bool, inputs: usize, v: &[u8]) -> Verdict
     ensures { result ≡ vector_judged ready inputs v.now }
 {
     if !ready {
-        return Verdict::Refused(Refusal::NotReady);
+        return Err(Refusal::NotReady);
     }
     if v.len() != inputs {
-        return Verdict::Refused(Refusal::VectorLength);
+        return Err(Refusal::VectorLength);
     }
     if !bytes_fit(v) {
-        return Verdict::Refused(Refusal::VectorByte);
+        return Err(Refusal::VectorByte);
     }
-    Verdict::Passed
+    Ok(())
+}
+
+// The value of a net of some kind and type; only a constant has one.
+fn constant(kind: u8, ty: u8) -> bool
+    ensures { result ≡ constant_at kind ty }
+{
+    kind == 2 && ty != 0
 }
 
 // The values that constants have, net by net.
 pub fn constants_of<'a>(kinds: &'a [u8; 256], types: &'a [u8; 256]) -> [bool; 256]
     ensures { result ≡ listed (λ n. constant_at (get_or kinds.now n 0) (get_or types.now n 0)) 256 }
 {
-    let mut out = [false; 256];
-    let mut n: usize = 0;
-    while n < 256 {
-        if kinds[n] == 2 {
-            out[n] = types[n] != 0;
-        }
-        n += 1;
-    }
-    out
+    array::from_fn(|n| constant(kinds[n], types[n]))
+}
+
+// The word that has a value at every time.
+fn flat(value: bool) -> u64
+    ensures { result ≡ word_of 64 (λ t. value) }
+{
+    word::spread(value)
 }
 
 // A word a net, its value at every time.
 pub fn flats(values: &[bool; 256]) -> [u64; 256]
     ensures { result ≡ listed (λ n. word_of 64 (λ t. get_or values.now n false)) 256 }
 {
-    let mut out = [0u64; 256];
-    let mut n: usize = 0;
-    while n < 256 {
-        out[n] = word::spread(values[n]);
-        n += 1;
-    }
-    out
+    array::from_fn(|n| flat(values[n]))
 }
 
 // A word's value at time 63.
@@ -101,13 +92,7 @@ pub fn top(word: u64) -> bool
 pub fn tops(words: &[u64; 256]) -> [bool; 256]
     ensures { result ≡ tops_of words.now }
 {
-    let mut out = [false; 256];
-    let mut n: usize = 0;
-    while n < 256 {
-        out[n] = top(words[n]);
-        n += 1;
-    }
-    out
+    array::from_fn(|n| top(words[n]))
 }
 
 // A vector's values in the inputs' words, at every time: the net of input j has byte j.
@@ -115,9 +100,7 @@ pub fn put_inputs<'a>(words: &mut [u64; 256], inputs: &'a [u16; 256], v: &'a [u8
     requires { (length v.now ≤ 256) × ((j : ℕ) → get_or inputs.now j 0 < 256) }
     ensures { words.new ≡ nets_put inputs.now (byte_word v.now) (length v.now) words.old }
 {
-    let mut j: usize = 0;
-    while j < v.len() {
-        words[card_wiring::wide16(inputs[j])] = word::spread(v[j] != 0);
-        j += 1;
+    for (j, byte) in v.iter().enumerate() {
+        words[usize::from(inputs[j])] = flat(*byte != 0);
     }
 }

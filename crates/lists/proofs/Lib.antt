@@ -7,3 +7,4 @@ pub mod Number
 pub mod Fills
 pub mod Rooms
 pub mod Places
+pub mod Made

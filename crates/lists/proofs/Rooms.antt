@@ -1,17 +1,17 @@
 -- Room that is filled from its front, with entries of any kind: nothing yet, one place more, and what stands in it then. Assumes nothing.
 use mathlib.Core.Path.{◌≡◌, refl, sym, ap, ◌∙◌}
-use mathlib.Core.List.{List, [], ◌∷◌}
-use Prim.Native.Nat.{ℕ, suc, ◌+◌, ◌≤◌, ◌<◌}
+use mathlib.Core.List.{List, [], ◌∷◌, ◌++◌}
+use Prim.Native.Nat.{ℕ, suc, ◌+◌, ◌-◌, ◌≤◌, ◌<◌}
 use native.Mathlib.Nat.{add-zero, zero-add}
 use native.Mathlib.Numerals.{add-one}
 use native.Mathlib.Omega.{arith}
 use native.Mathlib.Decide.{dec_lt}
-use lib.ListN.{length, get_or, set, get_or-eq_default}
-use lib.Seq.{sets}
+use lib.ListN.{length, get_or, set, take, drop, get_or-eq_default, get_or-append, length-append, length-drop}
+use lib.Seq.{sets, length-take-le, get_or-append_right, get_or-take, get_or-drop}
 use borrow.Author.Tests.{lt-ltb, le-ltb}
 use Rattle.lists.specs.Listed.{upto}
 use Rattle.lists.specs.Filled.{fills, filled}
-use Rattle.lists.proofs.Listed.{length_listed, listed_at, listed_past, listed_ext, listed_self, upto_none, upto_more}
+use Rattle.lists.proofs.Listed.{length_listed, listed_at, listed_past, listed_ext, listed_self, is_listed, upto_none, upto_more}
 
 -- d is what is read past a list's end
 module _ {A : Type 0} (d : A) where
@@ -50,6 +50,23 @@ module _ {A : Type 0} (d : A) where
   -- what is filled from a list that was filled so
   pub fills_through : (f : ℕ → A) (n m : ℕ) (old room : List A) → n ≤ m → m ≤ length old → fills d (λ e. get_or (fills d f m old) e d) n room ≡ fills d f n room
   fills_through f n m old room l k = fills_same (λ e. get_or (fills d f m old) e d) f n room (λ e b. fills_at f m e old k (omega arith))
+
+  -- the first n entries of a list, copied to the front
+  pub fills_copied : (from room : List A) (n : ℕ) → n ≤ length from → n ≤ length room → take n from ++ drop n room ≡ fills d (λ e. get_or from e d) n room
+  fills_copied from room n a b = is_listed (upto (λ e. get_or from e d) (λ i. get_or room i d) n) (length room) d (take n from ++ drop n room) size (λ i l. at i (dec_lt i n))
+    where
+      size : length (take n from ++ drop n room) ≡ length room
+      size = length-append (take n from) (drop n room) ∙ omega (arith, length-take-le n from a, length-drop n room)
+
+      at : (i : ℕ) → Dec (i < n) → get_or (take n from ++ drop n room) i d ≡ upto (λ e. get_or from e d) (λ i. get_or room i d) n i
+      at i (yes l) =
+          let k : i < length (take n from) = omega (arith, length-take-le n from a) in
+          rw (lt-ltb i n l) (get_or-append (take n from) (drop n room) d i k ∙ get_or-take n from i d l)
+      at i (no l) =
+          let long = length-take-le n from a in
+          let k : length (take n from) ≤ i = omega arith in
+          let x : n + (i - length (take n from)) ≡ i = omega arith in
+          rw (le-ltb i n (omega arith)) (get_or-append_right (take n from) (drop n room) i d k ∙ get_or-drop n room (i - length (take n from)) d ∙ ap (λ j. get_or room j d) x)
 
   -- A loop that copies the first n entries of a list: what it keeps
   module _ (from : List A) (n : ℕ) (room₀ : List A) where

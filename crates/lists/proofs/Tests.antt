@@ -4,6 +4,7 @@ use mathlib.Core.Bool.{Bool, true, false, ◌&&◌, ◌||◌, true≢false, fals
 use mathlib.Core.List.Memᴰ
 use mathlib.Core.List.{List, [], ◌∷◌, ◌++◌, map}
 use mathlib.Core.Logic.{◌⊎◌, inl, inr}
+use Rattle.std.specs.List.{list_all}
 use Rattle.lists.specs.Entries.{◌∈◌, some, every}
 use Rattle.lists.proofs.Bools.{and_both, or_neither, not_both}
 
@@ -42,6 +43,11 @@ module _ {A : Type 0} where
   some_append f (x ∷ xs) ys = ap (λ b. f x || b) (some_append f xs ys) ∙ sym (or_assoc (f x) (some f xs) (some f ys))
 
   -- `every`
+
+  -- it is the library's `list_all`
+  pub every_is : (f : A → Bool) (xs : List A) → list_all f xs ≡ every f xs
+  every_is f [] = refl
+  every_is f (x ∷ xs) = ap (λ b. f x && b) (every_is f xs)
 
   pub every_ext : (f g : A → Bool) (xs : List A) → ((x : A) → f x ≡ g x) → every f xs ≡ every g xs
   every_ext f g [] h = refl

@@ -11,7 +11,7 @@ use Rattle.inputs.specs.Allowed.{Vector}
 use Rattle.card.specs.declared.Session.{Session}
 use Rattle.card.specs.Session.{card_of}
 use Rattle.session.specs.Good.{Good}
-use Rattle.session.specs.declared.Moved.{Moved}
+use Rattle.session.specs.Moved.{Moved}
 use Rattle.session.specs.Moves.{moved_by, vector_of}
 use Rattle.session.proofs.Kept.{vector_good}
 use Rattle.session.proofs.Refusals.{Ruling, refuses, takes, vector_ruled, vector_takes}

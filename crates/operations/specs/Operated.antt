@@ -2,7 +2,7 @@
 use Rattle.std.specs.Prelude.{List, ℕ}
 use Rattle.card.specs.declared.Session.{Session}
 use Rattle.card.specs.Load.{load_of}
-use Rattle.session.specs.declared.Moved.{Moved}
+use Rattle.session.specs.Moved.{Moved}
 use Rattle.session.specs.Moves.{rest_of, vector_of}
 use Rattle.step_run.specs.Vector.{steps_vector_of}
 use Rattle.operations.specs.declared.Engine.{Engine}

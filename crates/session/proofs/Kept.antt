@@ -7,18 +7,18 @@ use native.Mathlib.Omega.{arith}
 use Rattle.lists.specs.Listed.{listed}
 use Rattle.rule.specs.Net.{Net}
 use Rattle.rule.specs.Rule.{AtRest}
-use Rattle.std.specs.Prelude.{Ok, Err}
+use Rattle.std.specs.Prelude.{Ok}
 use Rattle.inputs.specs.Inputs.{given}
 use Rattle.card_records.specs.Written.{Bytes}
 use Rattle.card.specs.declared.Session.{Session}
-use Rattle.card.specs.declared.Loaded.{Loaded}
+use Rattle.card.specs.Loaded.{Loaded}
 use Rattle.card.specs.Session.{none, session_of, card_of}
 use Rattle.card.specs.Load.{load_of}
 use Rattle.card.specs.Allowed.{Accepted}
 use Rattle.card.proofs.Sessions.{taken_unrested, resting_card}
 use Rattle.card.proofs.Kept.{none_carded, session_holds, resting_holds}
 use Rattle.card.proofs.Verdicts.{Ruling as LoadRuling, refuses as load_refuses, takes as load_takes, ruled as load-ruled, load_carded}
-use Rattle.session.specs.declared.Moved.{Moved}
+use Rattle.session.specs.Moved.{Moved}
 use Rattle.session.specs.Good.{histories, Rested, Good}
 use Rattle.session.specs.Moves.{ends, moved_by, vector_of, settled, rested_by, rest_of}
 use Rattle.session.proofs.Moving.{ends_calm}

@@ -12,7 +12,7 @@ use Rattle.inputs.specs.Inputs.{given, vector_judged}
 use Rattle.inputs.specs.Allowed.{Vector, VectorGets}
 use Rattle.inputs.proofs.Verdicts.{Judging, refused, passed, judging, gets_judged, vector_judged_lem}
 use Rattle.card.specs.declared.Session.{Session}
-use Rattle.session.specs.declared.Moved.{Moved}
+use Rattle.session.specs.Moved.{Moved}
 use Rattle.session.specs.Moves.{refused_move, moving, moved_by, vector_of, rested_by, rest_of}
 
 -- An operation that takes a vector, for any test of readiness, any count and any next session: it is refused exactly where a number applies, and then

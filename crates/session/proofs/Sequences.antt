@@ -12,7 +12,7 @@ use Rattle.lists.specs.Entries.{◌∈◌}
 use Rattle.word.specs.Word.{bit}
 use Rattle.rule.specs.Net.{Net}
 use Rattle.rule.specs.Rule.{value, Rest}
-use Rattle.std.specs.Prelude.{Ok, Err}
+use Rattle.std.specs.Prelude.{Ok}
 use Rattle.rule.proofs.Nets.{gate_listed}
 use Rattle.rule.proofs.Values.{value_same}
 use Rattle.inputs.specs.Inputs.{given}

@@ -15,8 +15,8 @@ use Rattle.rule.specs.Net.{open_pin, at_pin, net_at}
 use Rattle.rule.specs.Chain.{pc_set}
 use Rattle.rule.specs.Level.{longest, level, depth}
 use Rattle.rule.specs.Steps.{gate_order, net_steps, step_list}
-use Rattle.std.specs.Prelude.{Ok, Err}
-use Rattle.card_wiring.specs.Wired.{pins_fit, most_back, wired_of}
+use Rattle.std.specs.Prelude.{Ok}
+use Rattle.card_wiring.specs.Wired.{pins_fit, most_back, verdict_of, wired_of}
 use Rattle.inputs.specs.Inputs.{given}
 use Rattle.inputs.proofs.Verdicts.{fits_vector}
 use Rattle.card_records.specs.Written.{Bytes}
@@ -42,7 +42,7 @@ pub example_loaded : Session
 example_loaded = (load_of none example_card).session
 
 -- the card passes every test of its wiring, and has three inputs and two gates
-worked_out : ((wired_of example_nets).verdict ≡ (Ok tt)) × (inputs_of example_nets ≡ 3) × (length (gate_order example_nets) ≡ 2)
+worked_out : (verdict_of (wired_of example_nets) ≡ (Ok tt)) × (inputs_of example_nets ≡ 3) × (length (gate_order example_nets) ≡ 2)
 unfolding wired_of pins_fit most_back open_pin at_pin net_at longest level depth gate_order net_steps step_list pc_set inputs_of count
 worked_out = (refl, refl, refl)
 

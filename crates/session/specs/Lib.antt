@@ -1,3 +1,4 @@
+pub mod Moved
 pub mod Good
 pub mod Moves
 pub mod Sequence

@@ -11,7 +11,7 @@ use Rattle.rule.specs.Answers.{Verdict}
 use Rattle.inputs.specs.Inputs.{given, vector_judged}
 use Rattle.card.specs.declared.Session.{Session}
 use Rattle.card.specs.Session.{card_of, word_at, resting}
-use Rattle.session.specs.declared.Moved.{Moved}
+use Rattle.session.specs.Moved.{Moved}
 use Rattle.session.specs.Good.{histories}
 
 -- the value that a vector gives net n of a card: input j's is byte j; only inputs are given any
@@ -24,7 +24,7 @@ refused_move s why = record { answer = Err why; session = s }
 -- done with a count, or refused for its vector
 abbrev pub moving : Session → Verdict → ℕ → Session → Moved
 moving s (Err why) count next = refused_move s why
-moving s (Ok tt) count next = record { answer = Ok count; session = next }
+moving s (Ok _) count next = record { answer = Ok count; session = next }
 
 -- "The value at 63 is the next before value."
 unfoldable pub ends : Session → ℕ → Bool

@@ -22,7 +22,7 @@ use Rattle.std.specs.Prelude.{Ok, Err}
 use Rattle.rule.proofs.Numbers.{number_low}
 use Rattle.card_records.specs.Written.{Bytes}
 use Rattle.card.specs.declared.Session.{Session}
-use Rattle.card.specs.declared.Loaded.{Loaded}
+use Rattle.card.specs.Loaded.{Loaded}
 use Rattle.card.specs.Session.{none, card_of, before_at}
 use Rattle.card.specs.Load.{load_of}
 use Rattle.card.specs.Held.{HasCard}

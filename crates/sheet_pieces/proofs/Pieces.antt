@@ -13,7 +13,7 @@ use Rattle.rule.specs.Answers.{Answer}
 use Rattle.std.specs.Prelude.{Ok, Err}
 use Rattle.card_records.specs.Written.{Bytes}
 use Rattle.card.specs.declared.Session.{Session}
-use Rattle.card.specs.declared.Loaded.{Loaded}
+use Rattle.card.specs.Loaded.{Loaded}
 use Rattle.card.specs.Session.{none, card_of}
 use Rattle.card.specs.Load.{load_of}
 use Rattle.session.specs.Moves.{rest_of, vector_of}

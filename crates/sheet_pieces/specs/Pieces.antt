@@ -8,10 +8,10 @@ use Rattle.rule.specs.declared.Refusal.TheVariants.{NoRoom}
 use Rattle.rule.specs.Answers.{Answer}
 use Rattle.std.specs.Prelude.{Ok, Err}
 use Rattle.card.specs.declared.Session.{Session}
-use Rattle.card.specs.declared.Loaded.{Loaded}
+use Rattle.card.specs.Loaded.{Loaded}
 use Rattle.card.specs.Session.{none, card_of}
 use Rattle.card.specs.Load.{load_of}
-use Rattle.session.specs.declared.Moved.{Moved}
+use Rattle.session.specs.Moved.{Moved}
 use Rattle.session.specs.Good.{Good}
 use Rattle.session.specs.Moves.{rest_of, vector_of}
 use Rattle.sheet_text.specs.declared.Entry.{Entry}

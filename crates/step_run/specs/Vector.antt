@@ -7,7 +7,7 @@ use Rattle.rule.specs.Steps.{Step, step_list}
 use Rattle.inputs.specs.Inputs.{is_input_kind, given, vector_judged}
 use Rattle.card.specs.declared.Session.{Session}
 use Rattle.card.specs.Session.{card_of, resting}
-use Rattle.session.specs.declared.Moved.{Moved}
+use Rattle.session.specs.Moved.{Moved}
 use Rattle.session.specs.Moves.{moving, ends}
 use Rattle.step_vars.specs.Variables.{histories_from}
 use Rattle.step_run.specs.Runs.{Ran, ran}

@@ -12,21 +12,21 @@ use Rattle.card.proofs.ask_net.Goals.{After-gates_back-levels}
 -- a net of the card is a place of the arrays
 placed : (c : After-gates_back-levels) → c.args.n < 256
 placed c =
-    let s = c.args.s in
+    let s = c.args.s.now in
     let h = c.requires (c.if-not-s.false) in
     let few = (card_fits s h).fits.few in
     omega (arith, nets_are s h)
 
 pub returns-then-not-s : goal.returns-then-not-s
-returns-then-not-s c = asked_none c.args.s c.args.n (c.if-not-s.true)
+returns-then-not-s c = asked_none c.args.s.now c.args.n (c.if-not-s.true)
 
-pub returns-then-nets-n : goal.returns-then-nets-n
-returns-then-nets-n c = asked_past c.args.s c.args.n (c.if-not-s.false) c.if-nets-n.true
+pub returns-then-s-n : goal.returns-then-s-n
+returns-then-s-n c = asked_past c.args.s.now c.args.n (c.if-not-s.false) c.if-s-n.true
 
 pub gates_back-levels-requires : goal.gates_back-levels-requires
 gates_back-levels-requires c =
     let h = c.requires (c.if-not-s.false) in
-    record { wires = card_wires c.args.s h; fitting = card_fitting c.args.s h }
+    record { wires = card_wires c.args.s.now h; fitting = card_fitting c.args.s.now h }
 
 pub offset_bounds-levels-at : goal.offset_bounds-levels-at
 offset_bounds-levels-at c = let l = placed (goal.at.offset_bounds-levels-at c).After-gates_back-levels in search rules
@@ -43,4 +43,4 @@ bounds-s-at c = placed (goal.at.bounds-s-at c).After-gates_back-levels
 pub returns : goal.returns
 returns c =
     let loaded = c.if-not-s.false in
-    asked_here c.args.s (c.requires loaded) c.args.n _ _ loaded (omega arith) (ap (λ xs. get_or xs c.args.n 0) c.gates_back-levels.ensures) refl
+    asked_here c.args.s.now (c.requires loaded) c.args.n _ _ loaded (omega arith) (ap (λ xs. get_or xs c.args.n 0) c.gates_back-levels.ensures) refl

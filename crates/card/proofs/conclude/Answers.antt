@@ -1,16 +1,16 @@
 -- `card::conclude` meets its contract: its answer is the wiring's verdict, and a card that passes is laid into the new session. Assumes nothing.
-use mathlib.Core.Path.{◌∙◌}
+use Rattle.std.proofs.lemmas.Result.{err_from_is_err_and}
 use Rattle.card.proofs.Reading.{conclude_faulty, conclude_passed}
 use Rattle.card.proofs.conclude.Goals as goal
 
-pub returns-in-Err : goal.returns-in-Err
-returns-in-Err c =
+pub returns-in_err-wired : goal.returns-in_err-wired
+returns-in_err-wired c =
     let a = c.args in
-    c.refused.ensures
-    ∙ conclude_faulty a.old a.n a.kinds.now a.types.now a.counts.now a.places.now a.count a.inputs c.wire-w.result c.wire-w.ensures _ c.in-Err.is
+    let p = err_from_is_err_and c.from_residual.result c.from_residual.ensures.1 in
+    rw (p.1, p.2) (conclude_faulty a.session.now a.n a.kinds.now a.types.now a.counts.now a.places.now a.count a.inputs c.wire.result c.wire.ensures _ c.in_err-wired.was)
 
-pub returns-in-Ok : goal.returns-in-Ok
-returns-in-Ok c =
+pub returns : goal.returns
+returns c =
     let a = c.args in
-    conclude_passed a.old a.n a.kinds.now a.types.now a.counts.now a.places.now a.count a.inputs c.wire-w.result c.wire-w.ensures c.in-Ok.is
-    c.input_nets-feeds.result c.input_nets-feeds.ensures
+    conclude_passed a.session.now a.n a.kinds.now a.types.now a.counts.now a.places.now a.count a.inputs c.wire.result c.wire.ensures _ c.in_ok-wired.was
+    c.input_nets.result c.input_nets.ensures

@@ -10,26 +10,26 @@ use Rattle.card.proofs.depth_of.Goals as goal
 use Rattle.card.proofs.depth_of.Goals.{Else-not-s}
 
 -- past the test a card is loaded
-loaded : (c : Else-not-s) → c.args.s.loaded ≡ true
+loaded : (c : Else-not-s) → c.args.s.now.loaded ≡ true
 loaded c = c.if-not-s.false
 
-card : (c : Else-not-s) → HasCard c.args.s
-card c = c.requires ((let it : c.args.s.loaded ≡ true = c.if-not-s.false in it))
+card : (c : Else-not-s) → HasCard c.args.s.now
+card c = c.requires ((let it : c.args.s.now.loaded ≡ true = c.if-not-s.false in it))
 
 pub returns-then-not-s : goal.returns-then-not-s
 unfolding depth_asked
-returns-then-not-s c = rw (not-true c.args.s.loaded c.if-not-s.true-raw)
+returns-then-not-s c = rw (not-true c.args.s.now.loaded c.if-not-s.true-raw)
 
 pub gates_back-levels-requires : goal.gates_back-levels-requires
 gates_back-levels-requires c =
-    let s = c.args.s in
+    let s = c.args.s.now in
     record { wires = card_wires s (card (goal.at.gates_back-levels-requires c).Else-not-s); fitting = card_fitting s (card (goal.at.gates_back-levels-requires c).Else-not-s) }
 
 pub highest_of-requires : goal.highest_of-requires
-highest_of-requires c = few c.args.s (card (goal.at.highest_of-requires c).Else-not-s)
+highest_of-requires c = few c.args.s.now (card (goal.at.highest_of-requires c).Else-not-s)
 
 pub returns : goal.returns
 unfolding depth_asked
 returns c =
-    let s = c.args.s in
+    let s = c.args.s.now in
     c.highest_of.ensures ∙ ap (λ xs. highest xs s.nets) c.gates_back-levels.ensures ∙ depth_is s (card (goal.at.returns c).Else-not-s) ∙ rw (loaded (goal.at.returns c).Else-not-s)

@@ -6,11 +6,10 @@ use Rattle.card.proofs.judge.Goals as goal
 pub returns-then-inputs-eq0 : goal.returns-then-inputs-eq0
 returns-then-inputs-eq0 c =
     let a = c.args in
-    c.refused.ensures
-    ∙ judge_none a.old a.n a.kinds.now a.types.now a.counts.now a.places.now c.inputs_below-inputs.result c.inputs_below-inputs.ensures c.if-inputs-eq0.true
+    judge_none a.session.now a.n a.kinds.now a.types.now a.counts.now a.places.now c.inputs_below-inputs.result c.inputs_below-inputs.ensures c.if-inputs-eq0.true
 
 pub returns : goal.returns
 returns c =
     let a = c.args in
     c.conclude.ensures
-    ∙ judge_some a.old a.n a.kinds.now a.types.now a.counts.now a.places.now c.inputs_below-inputs.result c.inputs_below-inputs.ensures c.if-inputs-eq0.false
+    ∙ judge_some a.session.now a.n a.kinds.now a.types.now a.counts.now a.places.now c.inputs_below-inputs.result c.inputs_below-inputs.ensures c.if-inputs-eq0.false

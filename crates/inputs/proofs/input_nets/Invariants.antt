@@ -1,10 +1,6 @@
 use mathlib.Core.Path.{◌≡◌}
-use Prim.Native.Nat.{◌-◌, ◌≤◌}
 use Rattle.inputs.specs.Inputs.{rank, input_nets}
 use Rattle.inputs.proofs.input_nets.Given as goal
 
 abbrev pub invariant-loop-n : goal.invariant-loop-n
-invariant-loop-n l = (l.n ≤ 256) × (l.j ≡ rank l.kinds l.n) × (l.nets ≡ input_nets l.kinds l.n)
-
-abbrev pub decreases-loop-n : goal.decreases-loop-n
-decreases-loop-n l = 256 - l.n
+invariant-loop-n l = (l.j ≡ rank l.kinds l.n) × (l.nets ≡ input_nets l.kinds l.n)

@@ -1,11 +1,6 @@
 use mathlib.Core.Path.{◌≡◌}
-use Prim.Native.Nat.{◌-◌, ◌≤◌}
-use lib.ListN.{length}
 use Rattle.inputs.specs.Inner.Starts.{nets_put, byte_word}
 use Rattle.inputs.proofs.put_inputs.Given as goal
 
 abbrev pub invariant-loop-j : goal.invariant-loop-j
-invariant-loop-j l = (l.j ≤ length l.v) × (l.words ≡ nets_put l.inputs (byte_word l.v) l.j l.initial.words)
-
-abbrev pub decreases-loop-j : goal.decreases-loop-j
-decreases-loop-j l = length l.v - l.j
+invariant-loop-j l = l.words ≡ nets_put l.inputs (byte_word l.v) l.j l.initial.words

@@ -12,7 +12,7 @@ use Rattle.step_vars.specs.Inner.Variables.{StepTime, start_in}
 use Rattle.step_list.specs.Inner.Listing.{numbered_step}
 use Rattle.std.specs.Prelude.{Ok, Err}
 use Rattle.card.specs.declared.Session.{Session}
-use Rattle.session.specs.declared.Moved.{Moved}
+use Rattle.session.specs.Moved.{Moved}
 use Rattle.step_run.specs.declared.Advanced.{Advanced}
 use Rattle.step_run.specs.Runs.{Ran, ran}
 use Rattle.step_run.specs.Vector.{ran_session}
