@@ -12,11 +12,11 @@ use Rattle.std.specs.List.{list_all, range_with_len}
 use lib.Dec.{ltb, eqb}
 use lib.ListN.{length, get_or, take, drop}
 use Rattle.std.proofs.lemmas.List.{length-take, length-drop, length-take-le, get_or-take, get_or-drop, take_more}
-use borrow.Author.Tests.{ltb-true, eqb-true}
+use borrow.Author.Tests.{ltb-true, eqb-true, lt-ltb, eq-eqb}
 use Rattle.lists.specs.Entries.{◌∈◌, some, every, from}
 use Rattle.lists.specs.Listed.{listed}
-use Rattle.lists.proofs.Bools.{or_either}
-use Rattle.lists.proofs.Tests.{some_append, every_at, map_on}
+use Rattle.lists.proofs.Bools.{or_either, or_later}
+use Rattle.lists.proofs.Tests.{some_append, every_at, every_yes, map_on}
 use Rattle.lists.proofs.Joined.{in_from}
 use Rattle.lists.proofs.Listed.{listed_none, listed_at, in_listed, is_listed}
 use Rattle.lists.proofs.Order.{at_in}
@@ -64,6 +64,13 @@ part_listed xs a n k e l =
 
 pub fits_named : (n p : ℕ) → pin_fits n p ≡ true → (p < n) ⊎ (p ≡ open_pin)
 fits_named n p e = ⊎_elim (λ a. inl (ltb-true p n a)) (λ b. inr (eqb-true p open_pin b)) (or_either (ltb p n) (eqb p open_pin) e)
+
+pub named_fits : (n p : ℕ) → (p < n) ⊎ (p ≡ open_pin) → pin_fits n p ≡ true
+named_fits n p (inl l) = rw (lt-ltb p n l)
+named_fits n p (inr e) = or_later (ltb p n) _ (eq-eqb p open_pin e)
+
+pub all_fitting : (counts places : List ℕ) (n : ℕ) → Fitting counts places n → all_fit counts places n ≡ true
+all_fitting counts places n named = every_yes _ (from 0 n) (λ g m. every_yes (pin_fits n) (pins_at counts places g) (λ p i. named_fits n p (named g p i)))
 
 pub no_pins : (counts places : List ℕ) (n g : ℕ) → Wires counts places n → n ≤ g → pins_at counts places g ≡ []
 no_pins counts places n g w l = rw (w.past g l) (listed_none _)
