@@ -1,18 +1,12 @@
 -- The byte of a step. Assumes nothing.
 use mathlib.Core.Path.{◌≡◌, ap₂, ◌∙◌}
-use mathlib.Core.Bool.{Bool, true, false, cond}
+use mathlib.Core.Bool.{Bool, false, cond}
 use mathlib.Core.List.{List}
 use Prim.Native.Nat.{ℕ}
 use lib.ListN.{get_or}
 use Rattle.word.specs.Word.{bit, val}
 use Rattle.bench.specs.Bench.{not_done}
 use Rattle.bench.specs.Inner.Taken.{byte_in}
-
-pub byte_not : (done b : Bool) → done ≡ false → not_done ≡ cond done (val b) not_done
-byte_not done b e = rw e
-
-pub byte_done : (done b x : Bool) → done ≡ true → b ≡ x → val x ≡ cond done (val b) not_done
-byte_done done b x e q = rw (e, q)
 
 -- the byte of step number e, from its net and its time
 pub byte_at : (vars nets times : List ℕ) (done : List Bool) (e g t r : ℕ) → g ≡ get_or nets e 0 → t ≡ get_or times e 0 → r ≡ cond (get_or done e false) (val (bit (get_or vars g 0) t)) not_done

@@ -47,7 +47,7 @@ bench_done s new order k room =
 
 abbrev pub bench_order : Session → (ℕ → Bool) → List ℕ → ℕ → List ℕ → Verdict → Benched
 bench_order s new order k room (Err why) = bench_refused s room why
-bench_order s new order k room (Ok tt) =
+bench_order s new order k room (Ok _) =
     cond (leb k (length (step_list (card_of s))))
     (cond (leb (length (step_list (card_of s))) (length room)) (bench_done s new order k room) (bench_refused s room NoRoom))
     (bench_refused s room TooManyAsked)

@@ -5,7 +5,8 @@ use Prim.Native.Nat.{ℕ, ◌≤◌, ◌<◌}
 use native.Mathlib.Omega.{arith}
 use lib.ListN.{length, get_or}
 use borrow.Author.Tests.{lt-ltb, le-ltb}
-use Rattle.drill_text.specs.declared.Command.TheVariants.{Bad}
+use Rattle.std.specs.Prelude.{Option, None}
+use Rattle.drill_text.specs.declared.Command.{Command}
 use Rattle.drill_words.specs.Parts.{words}
 use Rattle.drill_text.specs.Lines.{with_one, with_two, with_three, with_four, asked, command_of}
 
@@ -45,7 +46,7 @@ asked_five (n ∷ a ∷ b ∷ c ∷ []) e = absurd (omega arith)
 asked_five (n ∷ a ∷ b ∷ c ∷ d ∷ []) e = refl
 asked_five (n ∷ a ∷ b ∷ c ∷ d ∷ x ∷ ws) e = absurd (omega arith)
 
-asked_other : (ws : List (List ℕ)) → (length ws ≡ 2 → ⊥) → (length ws ≡ 3 → ⊥) → (length ws ≡ 4 → ⊥) → (length ws ≡ 5 → ⊥) → Bad ≡ asked ws
+asked_other : (ws : List (List ℕ)) → (length ws ≡ 2 → ⊥) → (length ws ≡ 3 → ⊥) → (length ws ≡ 4 → ⊥) → (length ws ≡ 5 → ⊥) → ◌≡◌ {A = Option Command} None (asked ws)
 unfolding asked
 asked_other [] p q r s = refl
 asked_other (n ∷ []) p q r s = refl
@@ -57,7 +58,7 @@ asked_other (n ∷ a ∷ b ∷ c ∷ d ∷ x ∷ ws) p q r s = refl
 
 -- and a line of so many words
 
-pub line_long : (line : List ℕ) → 140000 < length line → Bad ≡ command_of line
+pub line_long : (line : List ℕ) → 140000 < length line → ◌≡◌ {A = Option Command} None (command_of line)
 unfolding command_of
 line_long line l = rw (lt-ltb 140000 (length line) l)
 
@@ -81,5 +82,5 @@ module _ (line : List ℕ) (l : length line ≤ 140000) where
   pub line_five : (n a b c d : List ℕ) → Word 0 n → Word 1 a → Word 2 b → Word 3 c → Word 4 d → length (words line) ≡ 5 → with_four n a b c d ≡ command_of line
   line_five n a b c d p q r s t e = rw (p, q, r, s, t) (asked_five (words line) e ∙ short)
 
-  pub line_other : (k : ℕ) → k ≡ length (words line) → (k ≡ 2 → ⊥) → (k ≡ 3 → ⊥) → (k ≡ 4 → ⊥) → (k ≡ 5 → ⊥) → Bad ≡ command_of line
+  pub line_other : (k : ℕ) → k ≡ length (words line) → (k ≡ 2 → ⊥) → (k ≡ 3 → ⊥) → (k ≡ 4 → ⊥) → (k ≡ 5 → ⊥) → ◌≡◌ {A = Option Command} None (command_of line)
   line_other k e p q r s = asked_other (words line) (λ x. p (e ∙ x)) (λ x. q (e ∙ x)) (λ x. r (e ∙ x)) (λ x. s (e ∙ x)) ∙ short

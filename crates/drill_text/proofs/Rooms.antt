@@ -9,10 +9,9 @@ use lib.Dec.{leb, ltb}
 use lib.ListN.{length}
 use borrow.Author.Tests.{leb-true}
 use Rattle.text.specs.Text.{same_text}
-use Rattle.drill_words.specs.declared.Number.{Number}
-use Rattle.drill_words.specs.declared.Number.TheVariants.{Spelled, Unreadable}
+use Rattle.std.specs.Prelude.{Option, Some, None}
 use Rattle.drill_text.specs.declared.Command.{Command}
-use Rattle.drill_text.specs.declared.Command.TheVariants.{Bad, Load, Rest, Vector, Steps, History, List as Steplist, Records, Net, Trace, Bench}
+use Rattle.drill_text.specs.declared.Command.TheVariants.{Load, Rest, Vector, Steps, History, List as Steplist, Records, Net, Trace, Bench}
 use Rattle.drill_words.specs.Parts.{words}
 use Rattle.drill_words.specs.Digits.{limited, number_spelled, room_of, is_hex}
 use Rattle.drill_words.specs.Orders.{is_order}
@@ -20,71 +19,71 @@ use Rattle.drill_text.specs.Lines.{load, rest, vector, steps, history, list, rec
 use Rattle.drill_text.proofs.Asking.{line_long}
 
 -- every room that a command asks for has at most 20,000 entries
-abbrev pub RoomsFit : Command → Type 0
-RoomsFit Bad = Unit
-RoomsFit Load = Unit
-RoomsFit Rest = Unit
-RoomsFit Vector = Unit
-RoomsFit Steps = Unit
-RoomsFit (History words befores flags) = (words ≤ 20000) × (befores ≤ 20000) × (flags ≤ 20000)
-RoomsFit (Steplist nets times) = (nets ≤ 20000) × (times ≤ 20000)
-RoomsFit (Records room) = room ≤ 20000
-RoomsFit (Net n) = Unit
-RoomsFit (Trace n t room) = room ≤ 20000
-RoomsFit (Bench k room) = room ≤ 20000
+abbrev pub RoomsFit : Option Command → Type 0
+RoomsFit None = Unit
+RoomsFit (Some Load) = Unit
+RoomsFit (Some Rest) = Unit
+RoomsFit (Some Vector) = Unit
+RoomsFit (Some Steps) = Unit
+RoomsFit (Some (History words befores flags)) = (words ≤ 20000) × (befores ≤ 20000) × (flags ≤ 20000)
+RoomsFit (Some (Steplist nets times)) = (nets ≤ 20000) × (times ≤ 20000)
+RoomsFit (Some (Records room)) = room ≤ 20000
+RoomsFit (Some (Net n)) = Unit
+RoomsFit (Some (Trace n t room)) = room ≤ 20000
+RoomsFit (Some (Bench k room)) = room ≤ 20000
 
 -- a room's length, if it was read
 
-abbrev Small : Number → Type 0
-Small (Spelled n) = n ≤ 20000
-Small Unreadable = Unit
+abbrev Small : Option ℕ → Type 0
+Small (Some n) = n ≤ 20000
+Small None = Unit
 
-small : (n : Number) → Small (limited n)
-small Unreadable = tt
-small (Spelled n) = go (leb n 20000) refl
+small : (n : Option ℕ) → Small (limited n)
+small None = tt
+small (Some n) = go (leb n 20000) refl
   where
-    go : (b : Bool) → leb n 20000 ≡ b → Small (cond b (Spelled n) Unreadable)
+    go : (b : Bool) → leb n 20000 ≡ b → Small (cond b (Some n) None)
     go true e = leb-true n 20000 e
     go false e = tt
 
 -- each kind of command
 
-either : (b : Bool) (x y : Command) → RoomsFit x → RoomsFit y → RoomsFit (cond b x y)
+either : (b : Bool) (x y : Option Command) → RoomsFit x → RoomsFit y → RoomsFit (cond b x y)
 either true x y p q = p
 either false x y p q = q
 
-records_fit : (x : Number) → Small x → RoomsFit (as_records x)
-records_fit (Spelled n) p = p
-records_fit Unreadable p = tt
+records_fit : (x : Option ℕ) → Small x → RoomsFit (as_records x)
+records_fit (Some n) p = p
+records_fit None p = tt
 
-net_fits : (x : Number) → RoomsFit (as_net x)
-net_fits (Spelled n) = tt
-net_fits Unreadable = tt
+net_fits : (x : Option ℕ) → RoomsFit (as_net x)
+net_fits (Some n) = tt
+net_fits None = tt
 
-list_fits : (x y : Number) → Small x → Small y → RoomsFit (as_list x y)
-list_fits Unreadable y p q = tt
-list_fits (Spelled n) Unreadable p q = tt
-list_fits (Spelled n) (Spelled m) p q = (p, q)
+list_fits : (x y : Option ℕ) → Small x → Small y → RoomsFit (as_list x y)
+list_fits None y p q = tt
+list_fits (Some n) None p q = tt
+list_fits (Some n) (Some m) p q = (p, q)
 
-history_fits : (x y z : Number) → Small x → Small y → Small z → RoomsFit (as_history x y z)
-history_fits Unreadable y z p q r = tt
-history_fits (Spelled n) Unreadable z p q r = tt
-history_fits (Spelled n) (Spelled m) Unreadable p q r = tt
-history_fits (Spelled n) (Spelled m) (Spelled k) p q r = (p, q, r)
+history_fits : (x y z : Option ℕ) → Small x → Small y → Small z → RoomsFit (as_history x y z)
+history_fits None y z p q r = tt
+history_fits (Some n) None z p q r = tt
+history_fits (Some n) (Some m) None p q r = tt
+history_fits (Some n) (Some m) (Some k) p q r = (p, q, r)
 
-trace_fits : (x y z : Number) → Small z → RoomsFit (as_trace x y z)
-trace_fits Unreadable y z r = tt
-trace_fits (Spelled n) Unreadable z r = tt
-trace_fits (Spelled n) (Spelled m) Unreadable r = tt
-trace_fits (Spelled n) (Spelled m) (Spelled k) r = r
+trace_fits : (x y z : Option ℕ) → Small z → RoomsFit (as_trace x y z)
+trace_fits None y z r = tt
+trace_fits (Some n) None z r = tt
+trace_fits (Some n) (Some m) None r = tt
+trace_fits (Some n) (Some m) (Some k) r = r
 
-bench_fits : (x y : Number) → Small y → RoomsFit (as_bench x y)
-bench_fits Unreadable y r = tt
-bench_fits (Spelled n) Unreadable r = tt
-bench_fits (Spelled n) (Spelled m) r = r
+bench_fits : (x y : Option ℕ) → Small y → RoomsFit (as_bench x y)
+bench_fits None y r = tt
+bench_fits (Some n) None r = tt
+bench_fits (Some n) (Some m) r = r
 
-hex_fits : (a : List ℕ) (x : Command) → RoomsFit x → RoomsFit (if_hex a x)
-hex_fits a x p = either (is_hex a) x Bad p tt
+hex_fits : (a : List ℕ) (x : Command) → RoomsFit (Some x) → RoomsFit (if_hex a x)
+hex_fits a x p = either (is_hex a) (Some x) None p tt
 
 -- by the number of words
 
@@ -130,20 +129,20 @@ rooms_fit line = either (ltb 140000 (length line)) _ _ tt (asked_fits (words lin
 
 -- For a caller that was told which command it is
 
-abbrev pub Told : Command → Type 0
-Told Bad = ⊥
-Told Load = Unit
-Told Rest = Unit
-Told Vector = Unit
-Told Steps = Unit
-Told (History w b f) = Unit
-Told (Steplist n t) = Unit
-Told (Records room) = Unit
-Told (Net n) = Unit
-Told (Trace n t room) = Unit
-Told (Bench k room) = Unit
+abbrev pub Told : Option Command → Type 0
+Told None = ⊥
+Told (Some Load) = Unit
+Told (Some Rest) = Unit
+Told (Some Vector) = Unit
+Told (Some Steps) = Unit
+Told (Some (History w b f)) = Unit
+Told (Some (Steplist n t)) = Unit
+Told (Some (Records room)) = Unit
+Told (Some (Net n)) = Unit
+Told (Some (Trace n t room)) = Unit
+Told (Some (Bench k room)) = Unit
 
-module _ (line : List ℕ) (r c : Command) (e : r ≡ command_of line) (t : r ≡ c) where
+module _ (line : List ℕ) (r c : Option Command) (e : r ≡ command_of line) (t : r ≡ c) where
   pub told_short : Told c → length line ≤ 140000
   told_short told = go (dec_le (length line) 140000)
     where

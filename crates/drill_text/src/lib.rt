@@ -1,4 +1,4 @@
-// The drill program's lines: a line as a command. `command_of` is total: a line that is no command is `Bad`.
+// The drill program's lines: a line as a command. `command_of` is total: a line that is no command asks for none.
 #![tactic(auto)]
 
 mod lines;
@@ -8,7 +8,6 @@ pub use lines::command_of;
 // What a line asks for. Bytes stay in the line, as word 1; an order is word 2.
 #[derive(Clone, Copy)]
 pub enum Command {
-    Bad,
     Load,
     Rest,
     Vector,

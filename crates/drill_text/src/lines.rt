@@ -1,165 +1,78 @@
 // A line as a command.
 ghost use Rattle.std.specs.Prelude.{◌≡◌};
-ghost use Rattle.drill_text.specs.Lines.{if_hex, as_records, as_net, as_list, as_history, as_trace, as_bench, with_one, with_two, with_three, with_four, command_of};
+ghost use Rattle.drill_text.specs.Lines.{with_one, with_two, with_three, with_four, command_of};
 
 use crate::Command;
-use drill_words::{Number, is_hex, is_order, number_of, room_of, word, word_count};
-
-// A command that takes bytes, if they are bytes.
-fn if_hex(word: &[u8], then: Command) -> Command
-    ensures { result ≡ if_hex word.now then }
-{
-    if is_hex(word) { then } else { Command::Bad }
-}
-
-// `records ROOM`
-fn records_of(room: Number) -> Command
-    ensures { result ≡ as_records room }
-{
-    match room {
-        Number::Spelled(n) => Command::Records(n),
-        Number::Unreadable => Command::Bad,
-    }
-}
-
-// `net N`
-fn net_of(net: Number) -> Command
-    ensures { result ≡ as_net net }
-{
-    match net {
-        Number::Spelled(n) => Command::Net(n),
-        Number::Unreadable => Command::Bad,
-    }
-}
-
-// `list NETS TIMES`
-fn list_of(nets: Number, times: Number) -> Command
-    ensures { result ≡ as_list nets times }
-{
-    let Number::Spelled(n) = nets else {
-        return Command::Bad;
-    };
-    let Number::Spelled(t) = times else {
-        return Command::Bad;
-    };
-    Command::List(n, t)
-}
-
-// `history WORDS BEFORES FLAGS`
-fn history_of(words: Number, befores: Number, flags: Number) -> Command
-    ensures { result ≡ as_history words befores flags }
-{
-    let Number::Spelled(w) = words else {
-        return Command::Bad;
-    };
-    let Number::Spelled(b) = befores else {
-        return Command::Bad;
-    };
-    let Number::Spelled(f) = flags else {
-        return Command::Bad;
-    };
-    Command::History(w, b, f)
-}
-
-// `trace N TIME ROOM`
-fn trace_of(net: Number, time: Number, room: Number) -> Command
-    ensures { result ≡ as_trace net time room }
-{
-    let Number::Spelled(n) = net else {
-        return Command::Bad;
-    };
-    let Number::Spelled(t) = time else {
-        return Command::Bad;
-    };
-    let Number::Spelled(r) = room else {
-        return Command::Bad;
-    };
-    Command::Trace(n, t, r)
-}
-
-// `bench HEX ORDER K ROOM`, from its last two words.
-fn bench_of(k: Number, room: Number) -> Command
-    ensures { result ≡ as_bench k room }
-{
-    let Number::Spelled(n) = k else {
-        return Command::Bad;
-    };
-    let Number::Spelled(r) = room else {
-        return Command::Bad;
-    };
-    Command::Bench(n, r)
-}
+use drill_words::{is_hex, is_order, number_of, room_of, word, word_count};
 
 // A line of a name and one word more.
-fn with_one(name: &[u8], a: &[u8]) -> Command
+#[tactic(auto, using(text::proofs::Texts::same_is), unfolding(crate::specs::Lines::with_one))]
+fn with_one(name: &[u8], a: &[u8]) -> Option<Command>
     ensures { result ≡ with_one name.now a.now }
 {
-    if text::same(name, b"load") {
-        return if_hex(a, Command::Load);
+    if name == b"load".as_slice() {
+        return is_hex(a).then_some(Command::Load);
     }
-    if text::same(name, b"rest") {
-        return if_hex(a, Command::Rest);
+    if name == b"rest".as_slice() {
+        return is_hex(a).then_some(Command::Rest);
     }
-    if text::same(name, b"vector") {
-        return if_hex(a, Command::Vector);
+    if name == b"vector".as_slice() {
+        return is_hex(a).then_some(Command::Vector);
     }
-    if text::same(name, b"steps") {
-        return if_hex(a, Command::Steps);
+    if name == b"steps".as_slice() {
+        return is_hex(a).then_some(Command::Steps);
     }
-    if text::same(name, b"records") {
-        return records_of(room_of(a));
+    if name == b"records".as_slice() {
+        return Some(Command::Records(room_of(a)?));
     }
-    if text::same(name, b"net") {
-        return net_of(number_of(a));
+    if name == b"net".as_slice() {
+        return Some(Command::Net(number_of(a)?));
     }
-    Command::Bad
+    None
 }
 
 // A line of a name and two words more.
-fn with_two(name: &[u8], a: &[u8], b: &[u8]) -> Command
+#[tactic(auto, using(text::proofs::Texts::same_is), unfolding(crate::specs::Lines::with_two))]
+fn with_two(name: &[u8], a: &[u8], b: &[u8]) -> Option<Command>
     ensures { result ≡ with_two name.now a.now b.now }
 {
-    if text::same(name, b"list") {
-        return list_of(room_of(a), room_of(b));
+    if name == b"list".as_slice() {
+        return Some(Command::List(room_of(a)?, room_of(b)?));
     }
-    Command::Bad
+    None
 }
 
 // A line of a name and three words more.
-fn with_three(name: &[u8], a: &[u8], b: &[u8], c: &[u8]) -> Command
+#[tactic(auto, using(text::proofs::Texts::same_is), unfolding(crate::specs::Lines::with_three))]
+fn with_three(name: &[u8], a: &[u8], b: &[u8], c: &[u8]) -> Option<Command>
     ensures { result ≡ with_three name.now a.now b.now c.now }
 {
-    if text::same(name, b"history") {
-        return history_of(room_of(a), room_of(b), room_of(c));
+    if name == b"history".as_slice() {
+        return Some(Command::History(room_of(a)?, room_of(b)?, room_of(c)?));
     }
-    if text::same(name, b"trace") {
-        return trace_of(number_of(a), number_of(b), room_of(c));
+    if name == b"trace".as_slice() {
+        return Some(Command::Trace(number_of(a)?, number_of(b)?, room_of(c)?));
     }
-    Command::Bad
+    None
 }
 
 // A line of a name and four words more.
-fn with_four(name: &[u8], a: &[u8], b: &[u8], c: &[u8], d: &[u8]) -> Command
+#[tactic(auto, using(text::proofs::Texts::same_is), unfolding(crate::specs::Lines::with_four))]
+fn with_four(name: &[u8], a: &[u8], b: &[u8], c: &[u8], d: &[u8]) -> Option<Command>
     ensures { result ≡ with_four name.now a.now b.now c.now d.now }
 {
-    if !text::same(name, b"bench") {
-        return Command::Bad;
+    if name == b"bench".as_slice() && is_hex(a) && is_order(b) {
+        return Some(Command::Bench(number_of(c)?, room_of(d)?));
     }
-    if !is_hex(a) {
-        return Command::Bad;
-    }
-    if !is_order(b) {
-        return Command::Bad;
-    }
-    bench_of(number_of(c), room_of(d))
+    None
 }
 
 // What a line asks for, by the number of its words.
-pub fn command_of(line: &[u8]) -> Command
+pub fn command_of(line: &[u8]) -> Option<Command>
     ensures { result ≡ command_of line.now }
 {
     if 140000 < line.len() {
-        return Command::Bad;
+        return None;
     }
     let name = word(line, 0);
     match word_count(line) {
@@ -173,6 +86,6 @@ pub fn command_of(line: &[u8]) -> Command
             word(line, 3),
             word(line, 4),
         ),
-        _ => Command::Bad,
+        _ => None,
     }
 }

@@ -1,7 +1,5 @@
 -- Digits: a number of decimal digits, and bytes of two hexadecimal digits each. Assumes nothing.
-use Rattle.std.specs.Prelude.{Bool, true, false, cond, List, [], ◌∷◌, ℕ, ◌+◌, ◌-◌, ◌*◌, ◌%◌, ◌^◌, eqb, leb, ltb, length, get_or}
-use Rattle.drill_words.specs.declared.Number.{Number}
-use Rattle.drill_words.specs.declared.Number.TheVariants.{Spelled, Unreadable}
+use Rattle.std.specs.Prelude.{Bool, true, false, cond, List, [], ◌∷◌, Option, Some, None, ℕ, ◌+◌, ◌-◌, ◌*◌, ◌%◌, ◌^◌, eqb, leb, ltb, length, get_or}
 
 -- a hexadecimal digit's value, of `0` to `9`, `A` to `F` and `a` to `f`; 16 for any other byte
 unfoldable pub digit_of : ℕ → ℕ
@@ -14,22 +12,22 @@ digit_of b =
     (cond (leb b 102) (b - 97 + 10) 16)))))
 
 -- the number that decimal digits spell after others that spelled n; "Numbers go up to 2^64 - 1"
-unfoldable pub spelled_from : ℕ → List ℕ → Number
-spelled_from n [] = Spelled n
+unfoldable pub spelled_from : ℕ → List ℕ → Option ℕ
+spelled_from n [] = Some n
 spelled_from n (b ∷ bs) =
-    cond (ltb (digit_of b) 10) (cond (ltb (10 * n + digit_of b) (2 ^ 64)) (spelled_from (10 * n + digit_of b) bs) Unreadable) Unreadable
+    cond (ltb (digit_of b) 10) (cond (ltb (10 * n + digit_of b) (2 ^ 64)) (spelled_from (10 * n + digit_of b) bs) None) None
 
 -- the number that a word spells, by one digit or more
-unfoldable pub number_spelled : List ℕ → Number
-number_spelled word = cond (eqb (length word) 0) Unreadable (spelled_from 0 word)
+unfoldable pub number_spelled : List ℕ → Option ℕ
+number_spelled word = cond (eqb (length word) 0) None (spelled_from 0 word)
 
 -- "rooms to 20,000 entries"
-abbrev pub limited : Number → Number
-limited (Spelled n) = cond (leb n 20000) (Spelled n) Unreadable
-limited Unreadable = Unreadable
+abbrev pub limited : Option ℕ → Option ℕ
+limited (Some n) = cond (leb n 20000) (Some n) None
+limited None = None
 
 -- the length of a room
-abbrev pub room_of : List ℕ → Number
+abbrev pub room_of : List ℕ → Option ℕ
 room_of word = limited (number_spelled word)
 
 -- "`-` where empty"

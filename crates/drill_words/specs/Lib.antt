@@ -2,4 +2,3 @@ pub mod Filled
 pub mod Parts
 pub mod Digits
 pub mod Orders
-pub mod Inner

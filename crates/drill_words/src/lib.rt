@@ -1,5 +1,4 @@
-// The words of a line: a line taken apart into its words, and the numbers, bytes and orders that words spell. A word that spells no number is
-// `Unreadable`.
+// The words of a line: a line taken apart into its words, and the numbers, bytes and orders that words spell.
 #![tactic(auto)]
 
 mod digits;
@@ -9,10 +8,3 @@ mod parts;
 pub use digits::{hex_into, is_hex, number_of, room_of};
 pub use orders::{is_order, order_into};
 pub use parts::{word, word_count};
-
-// A number that a word spells, if it does.
-#[derive(Clone, Copy)]
-pub enum Number {
-    Spelled(u64),
-    Unreadable,
-}

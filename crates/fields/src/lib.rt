@@ -35,11 +35,11 @@ pub fn gather<'a>(
     ensures { (t : ℕ) → bit result t
         ≡ by_pins ty (map (λ p. bit (pin_word words.now p) t) (pins_at counts.now places.now g)) }
 {
-    let count = card_wiring::wide(counts[g]);
+    let count = usize::from(counts[g]);
     let open = open_word();
     let mut known = card_wiring::at_pin(words, places[g * 8], open);
-    let mut j: usize = 1;
-    while j < 8 {
+    // to 8 with a way out, since a loop to `count` or over a slice of the pins is slower (docs/PERFORMANCE.md)
+    for j in 1..8 {
         if count <= j {
             return known;
         }
@@ -49,7 +49,6 @@ pub fn gather<'a>(
             known,
             card_wiring::at_pin(words, places[g * 8 + j], open),
         );
-        j += 1;
     }
     known
 }
@@ -70,7 +69,7 @@ fn field_of<'a>(
         ≡ field_of (bit (get_or words.now g 0) 63) (get_or types.now g 0)
         (map (pin_word words.now) (pins_at counts.now places.now g)) }
 {
-    let ty = card_wiring::wide(types[g]);
+    let ty = usize::from(types[g]);
     let rule = gate::rule_of(ty);
     let all = gather(words, counts, places, n, ty, rule, g);
     gate::field(rule, all, inputs::top(words[g]))
@@ -95,11 +94,9 @@ pub fn pass<'a>(
         ≡ passed (tops_of words.old) types.now counts.now places.now words.old
         (listed (λ i. get_or order.now i 0) gates) }
 {
-    let mut i: usize = 0;
-    while i < gates {
-        let g = card_wiring::wide16(order[i]);
+    for &gate in &order[..gates] {
+        let g = usize::from(gate);
         words[g] = field_of(words, types, counts, places, n, g);
-        i += 1;
     }
 }
 

@@ -89,23 +89,23 @@ fn copy_times(from: &[u8; 4096], n: usize, room: &mut [u8])
 }
 
 // The step list into lent room, nets and times.
-pub fn list(s: Session, nets: &mut [u16], times: &mut [u8]) -> Answer
-    requires { Good s }
-    ensures { record { answer = result; nets = nets.new; times = times.new } ≡ list_of s nets.old times.old }
+pub fn list(s: &Session, nets: &mut [u16], times: &mut [u8]) -> Answer
+    requires { Good s.now }
+    ensures { record { answer = result; nets = nets.new; times = times.new } ≡ list_of s.now nets.old times.old }
 {
     if !s.loaded {
-        return Answer::Refused(Refusal::NotReady);
+        return Err(Refusal::NotReady);
     }
     let mut step_nets = [0u16; 4096];
     let mut step_times = [0u8; 4096];
     let total = put_list(&mut step_nets, &mut step_times, &s.sets, &s.order, s.gates);
     if nets.len() < total {
-        return Answer::Refused(Refusal::NoRoom);
+        return Err(Refusal::NoRoom);
     }
     if times.len() < total {
-        return Answer::Refused(Refusal::NoRoom);
+        return Err(Refusal::NoRoom);
     }
     copy_nets(&step_nets, total, nets);
     copy_times(&step_times, total, times);
-    Answer::Done(total)
+    Ok(total)
 }

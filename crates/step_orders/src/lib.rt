@@ -8,8 +8,7 @@ ghost use Rattle.step_vars.specs.Variables.{reads_in};
 ghost use Rattle.step_orders.specs.Orders.{entries_fit};
 ghost use Rattle.step_orders.specs.Inner.Ready.{StepEntry, order_steps, done_of, ready_in, judged_in};
 
-use card_wiring::Verdict;
-use rule::Refusal;
+use rule::{Refusal, Verdict};
 
 // Whether every entry of an order is a step's number, and none stands twice.
 fn entries_fit(order: &[u16], total: usize) -> bool
@@ -17,9 +16,8 @@ fn entries_fit(order: &[u16], total: usize) -> bool
     ensures { result ≡ entries_fit total order.now }
 {
     let mut seen = [false; 4096];
-    let mut i: usize = 0;
-    while i < order.len() {
-        let e = card_wiring::wide16(order[i]);
+    for &entry in order {
+        let e = usize::from(entry);
         if total <= e {
             return false;
         }
@@ -27,7 +25,6 @@ fn entries_fit(order: &[u16], total: usize) -> bool
             return false;
         }
         seen[e] = true;
-        i += 1;
     }
     true
 }
@@ -48,13 +45,10 @@ fn reads_done<'a>(
     ensures { result
         ≡ every (done_of done.now) (reads_in counts.now places.now sets.now (record { net = g; time = t })) }
 {
-    let count = card_wiring::wide(counts[g]);
-    let mut j: usize = 0;
-    while j < count {
+    for j in 0..usize::from(counts[g]) {
         if !step_vars::read_at(done, sets, places[g * 8 + j], t, true) {
             return false;
         }
-        j += 1;
     }
     true
 }
@@ -77,16 +71,14 @@ fn order_ready<'a>(
         (order_steps nets.now times.now order.now) }
 {
     let mut done = [1u64; 256];
-    let mut i: usize = 0;
-    while i < order.len() {
-        let e = card_wiring::wide16(order[i]);
-        let g = card_wiring::wide16(nets[e]);
-        let t = step_vars::narrow(times[e]);
+    for &entry in order {
+        let e = usize::from(entry);
+        let g = usize::from(nets[e]);
+        let t = u32::from(times[e]);
         if !reads_done(&done, counts, places, sets, n, g, t) {
             return false;
         }
         done[g] = word::put(done[g], t, true);
-        i += 1;
     }
     true
 }
@@ -109,13 +101,13 @@ pub fn judge_order<'a>(
         ≡ judged_in counts.now places.now sets.now nets.now times.now total order.now }
 {
     if order.len() != total {
-        return Verdict::Refused(Refusal::OrderLength);
+        return Err(Refusal::OrderLength);
     }
     if !entries_fit(order, total) {
-        return Verdict::Refused(Refusal::OrderEntry);
+        return Err(Refusal::OrderEntry);
     }
     if !order_ready(counts, places, sets, n, nets, times, order) {
-        return Verdict::Refused(Refusal::OrderEarly);
+        return Err(Refusal::OrderEarly);
     }
-    Verdict::Passed
+    Ok(())
 }

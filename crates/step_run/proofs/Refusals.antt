@@ -4,7 +4,7 @@ use mathlib.Core.List.{List}
 use Prim.Native.Nat.{ℕ}
 use Rattle.rule.specs.Steps.{step_list}
 use Rattle.rule.specs.declared.Refusal.{Refusal}
-use Rattle.std.specs.Prelude.{Ok, Err}
+use Rattle.std.specs.Prelude.{Err}
 use Rattle.inputs.specs.Allowed.{VectorGets}
 use Rattle.inputs.specs.Inputs.{given}
 use Rattle.card.specs.declared.Session.{Session}

@@ -14,9 +14,7 @@ ghost use Rattle.step_run.specs.Inner.Runs.{Doable, ordered_steps, stepped, ran_
 ghost use Rattle.step_run.specs.Vector.{ran_along, steps_vector_of};
 
 use card::Session;
-use card_wiring::Verdict;
 use rule::Answer;
-use session::Moved;
 
 // What a vector by steps leaves: the words of the nets' histories, and how many steps were done.
 #[derive(Clone, Copy)]
@@ -46,22 +44,15 @@ pub fn run_order<'a>(
         ≡ ran types.now counts.now places.now sets.now vars.old
         (ordered_steps nets.now times.now order.now k) }
 {
-    let mut i: usize = 0;
-    while i < k {
-        let e = card_wiring::wide16(order[i]);
-        step_vars::step(
-            vars,
-            types,
-            counts,
-            places,
-            sets,
-            n,
-            card_wiring::wide16(nets[e]),
-            step_vars::narrow(times[e]),
-        );
-        i += 1;
+    let mut done: usize = 0;
+    for &entry in &order[..k] {
+        let e = usize::from(entry);
+        let net = usize::from(nets[e]);
+        let time = u32::from(times[e]);
+        step_vars::step(vars, types, counts, places, sets, n, net, time);
+        done += 1;
     }
-    i
+    done
 }
 
 // The steps along the list, counted from 0.
@@ -85,17 +76,10 @@ pub fn run_list<'a>(
         (steps_named nets.now times.now total) }
 {
     let mut done: usize = 0;
-    while done < total {
-        step_vars::step(
-            vars,
-            types,
-            counts,
-            places,
-            sets,
-            n,
-            card_wiring::wide16(nets[done]),
-            step_vars::narrow(times[done]),
-        );
+    for e in 0..total {
+        let net = usize::from(nets[e]);
+        let time = u32::from(times[e]);
+        step_vars::step(vars, types, counts, places, sets, n, net, time);
         done += 1;
     }
     done
@@ -133,11 +117,12 @@ pub fn advance<'a>(
     Advanced { words: next, count }
 }
 
-// A vector that fits, run by steps along the list.
-fn run_steps(s: Session, v: &[u8]) -> Moved
-    requires good { Good s }
-    requires rested_value { (s.rested ≡ true) × (length v.now ≡ s.inputs) }
-    ensures { result ≡ ran_move s (ran_along s (given s.kinds v.now) (step_list (card_of s))) }
+// A vector that fits, run by steps along the list; the count of the steps done is handed back.
+fn run_steps(s: &mut Session, v: &[u8]) -> usize
+    requires good { Good s.old }
+    requires rested_value { (s.old.rested ≡ true) × (length v.now ≡ s.old.inputs) }
+    ensures { record { answer = Ok result; session = s.new }
+        ≡ ran_move s.old (ran_along s.old (given s.old.kinds v.now) (step_list (card_of s.old))) }
 {
     let mut nets = [0u16; 4096];
     let mut times = [0u8; 4096];
@@ -146,23 +131,17 @@ fn run_steps(s: Session, v: &[u8]) -> Moved
         &s.words, &s.feeds, &s.types, &s.counts, &s.places, &s.sets, s.nets, &nets, &times, total,
         v,
     );
-    let before = inputs::tops(&s.words);
     let words = left.words;
-    let next = session::with_words(s, s.rested, before, words);
-    Moved {
-        answer: Answer::Done(left.count),
-        session: next,
-    }
+    s.before = inputs::tops(&s.words);
+    s.words = words;
+    left.count
 }
 
 // A vector by steps.
-pub fn vector_steps(s: Session, v: &[u8]) -> Moved
-    requires { Good s }
-    ensures { result ≡ steps_vector_of s v.now }
+pub fn vector_steps(s: &mut Session, v: &[u8]) -> Answer
+    requires { Good s.old }
+    ensures { record { answer = result; session = s.new } ≡ steps_vector_of s.old v.now }
 {
-    let verdict = inputs::judge(s.rested, s.inputs, v);
-    match verdict {
-        Verdict::Refused(why) => session::refused(s, why),
-        Verdict::Passed => run_steps(s, v),
-    }
+    inputs::judge(s.rested, s.inputs, v)?;
+    Ok(run_steps(s, v))
 }

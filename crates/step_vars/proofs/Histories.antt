@@ -2,13 +2,16 @@
 -- then twice as far with each turn. Assumes nothing.
 use mathlib.Core.Path.{◌≡◌, refl, sym, ap, ap₂, ◌∙◌}
 use mathlib.Core.Bool.{Bool, true, false, not, ◌&&◌, ◌||◌, and-true, and-false, or-false}
-use Prim.Native.Nat.{ℕ, ◌+◌, ◌-◌, ◌*◌, ◌%◌, ◌^◌, ◌≤◌, ◌<◌}
-use native.Mathlib.Nat.{mod-lt, lt_of_le_of_lt}
+use mathlib.Core.List.{[], ◌∷◌}
+use Prim.Native.Nat.{ℕ, zero, suc, ◌+◌, ◌-◌, ◌*◌, ◌%◌, ◌^◌, ◌≤◌, ◌<◌}
+use native.Mathlib.Nat.{mod-lt, lt_of_le_of_lt, two-pow-succ}
+use native.Mathlib.Numerals.{add-one}
 use native.Mathlib.Omega.{arith}
 use native.Mathlib.Decide.{dec_lt}
 use lib.Bits.{bit_and, bit_or, and_le_l, and_lt, or_lt}
 use lib.Dec.{ltb, lit<}
-use lib.Pow.{pow_pos}
+use lib.ListN.{get_or}
+use lib.Pow.{pow_pos, pow_mono}
 use borrow.Author.Tests.{lt-ltb, le-ltb}
 use Rattle.word.specs.Word.{bit}
 use Rattle.word.specs.Times.{greatest, no_time, zero_in}
@@ -136,3 +139,21 @@ module _ (set vars : ℕ) where
   unfolding history_word
   wide_all known v s m w =
       is_word 64 at v w.fits (λ t b. w.held t b ∙ ap (λ x. x && at t) (w.near t b ∙ lt-ltb t (last (bit set) t + s) (omega arith)))
+
+-- how wide the filling is ahead of turn i
+pub turn_width : (i : ℕ) → i < 6 → get_or (1 ∷ 2 ∷ 4 ∷ 8 ∷ 16 ∷ 32 ∷ []) i 0 ≡ 2 ^ i
+turn_width zero l = refl
+turn_width (suc zero) l = refl
+turn_width (suc (suc zero)) l = refl
+turn_width (suc (suc (suc zero))) l = refl
+turn_width (suc (suc (suc (suc zero)))) l = refl
+turn_width (suc (suc (suc (suc (suc zero))))) l = refl
+turn_width (suc (suc (suc (suc (suc (suc i)))))) l = absurd (omega arith)
+
+-- a turn doubles it
+pub turn_next : (i : ℕ) → 2 ^ (i + 1) ≡ 2 ^ i + 2 ^ i
+turn_next i = rw (add-one i) (two-pow-succ i)
+
+-- the last turn leaves it as wide as a word
+pub turn_last : (i : ℕ) → 6 ≤ i → 64 ≤ 2 ^ i
+turn_last i l = pow_mono l

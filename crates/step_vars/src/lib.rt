@@ -30,7 +30,7 @@ pub fn read_at<'a>(words: &[u64; 256], sets: &'a [u64; 256], p: u16, t: u32, loo
     if p == card_wiring::OPEN {
         return loose;
     }
-    let n = card_wiring::wide16(p);
+    let n = usize::from(p);
     let set = PcSet { word: sets[n] };
     let held = PcSet { word: words[n] };
     held.has(set.largest_below(t))
@@ -54,18 +54,16 @@ fn gather<'a>(
     ensures { result
         ≡ by_pins ty (map (λ p. vars_of vars.now (read_in sets.now t p)) (pins_at counts.now places.now g)) }
 {
-    let count = card_wiring::wide(counts[g]);
+    let count = usize::from(counts[g]);
     let loose = rule::open_value();
     let mut known = read_at(vars, sets, places[g * 8], t, loose);
-    let mut j: usize = 1;
-    while j < count {
+    for j in 1..count {
         known = gate::with_pin(
             ty,
             rule,
             known,
             read_at(vars, sets, places[g * 8 + j], t, loose),
         );
-        j += 1;
     }
     known
 }
@@ -89,7 +87,7 @@ pub fn step<'a>(
         ≡ step_in types.now counts.now places.now sets.now vars.old
         (record { net = g; time = t }) }
 {
-    let ty = card_wiring::wide(types[g]);
+    let ty = usize::from(types[g]);
     let rule = gate::rule_of(ty);
     let all = gather(vars, counts, places, sets, n, ty, rule, g, t);
     let b = gate::gate_value(rule, all);
@@ -103,11 +101,9 @@ pub fn history_from(vars: u64, set: u64) -> u64
 {
     let mut known = set | 1;
     let mut v = vars & known;
-    let mut s: u32 = 1;
-    while s < 64 {
+    for s in [1u32, 2, 4, 8, 16, 32] {
         v |= (v << s) & !known;
         known |= known << s;
-        s += s;
     }
     v
 }
@@ -116,18 +112,5 @@ pub fn history_from(vars: u64, set: u64) -> u64
 pub fn histories_from<'a>(vars: &'a [u64; 256], sets: &'a [u64; 256]) -> [u64; 256]
     ensures { result ≡ histories_from sets.now vars.now }
 {
-    let mut out = [0u64; 256];
-    let mut n: usize = 0;
-    while n < 256 {
-        out[n] = history_from(vars[n], sets[n]);
-        n += 1;
-    }
-    out
-}
-
-// A byte as a time.
-pub fn narrow(x: u8) -> u32
-    ensures { result ≡ x }
-{
-    x as u32
+    std::array::from_fn(|n| history_from(vars[n], sets[n]))
 }

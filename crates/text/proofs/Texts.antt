@@ -1,18 +1,21 @@
 -- Texts put one after another are one text put; a number's digits and how many they are; two texts compared. Assumes nothing.
-use mathlib.Core.Path.{◌≡◌, refl, sym, ap, ◌∙◌, subst}
-use mathlib.Core.Bool.{Bool, true, false, cond}
-use mathlib.Core.List.{List, [], ◌∷◌, ◌++◌}
+use mathlib.Core.Path.{◌≡◌, refl, sym, ap, ap₂, ◌∙◌, subst}
+use mathlib.Core.Bool.{Bool, true, false, cond, ◌&&◌}
+use mathlib.Core.List.{List, [], ◌∷◌, ◌++◌, append_assoc}
 use Prim.Native.Nat.{ℕ, zero, suc, ◌+◌, ◌/◌, ◌%◌, ◌^◌, ◌≤◌, ◌<◌}
 use native.Mathlib.Omega.{arith}
 use native.Mathlib.Decide.{dec_lt}
 use native.Mathlib.Nat.{pow-suc}
 use native.Mathlib.Numerals.{add-one}
 use lib.Dec.{eqb, ltb}
-use lib.ListN.{length, get_or, take, drop, set, length-append, drop_of_length-le}
-use lib.Seq.{sets, take-suc, drop-cons}
-use borrow.Author.Tests.{eq-eqb, ne_eqb, lt-ltb, le-ltb}
+use lib.Pointwise.{pointwise}
+use lib.ListN.{length, get_or, take, drop, set, length-append}
+use lib.Seq.{sets, sets-eq, drop-cons, drop-drop}
+use borrow.Rule.Slice.PartMut.{put_mid}
+use borrow.Author.Tests.{lt-ltb, le-ltb}
 use Rattle.text.specs.Text.{digit, digits_in, decimal, same_text}
-use Rattle.text.specs.Inner.Put.{Put}
+use Rattle.text.specs.declared.Page.{Page}
+use Rattle.text.specs.Inner.Put.{Put, Puts}
 
 -- two texts, the second where the first ends
 pub sets_append : (s t l : List ℕ) (i : ℕ) → sets l i (s ++ t) ≡ sets (sets l i s) (i + length s) t
@@ -33,10 +36,29 @@ put_none a i = record { page_is = refl; end_is = omega arith }
 pub put_same : {s t a b : List ℕ} {i j : ℕ} → s ≡ t → Put s a i b j → Put t a i b j
 put_same {a = a} {b = b} {i = i} {j = j} e p = subst (λ s. Put s a i b j) e p
 
--- one byte more of a word
-pub put_more : (word : List ℕ) (k : ℕ) {a b c : List ℕ} {i j e : ℕ} → k < length word → Put (take k word) a i b j → Put (get_or word k 0 ∷ []) b j c e
-    → Put (take (k + 1) word) a i c e
-put_more word k l p q = put_same (sym (take-suc word k 0 l) ∙ ap (λ n. take n word) (sym (add-one k))) (put_then p q)
+-- the same of a page
+pub puts_then : {s t : List ℕ} {p q r : Page} → Puts s p q → Puts t q r → Puts (s ++ t) p r
+puts_then a b = record { put = put_then a.put b.put; same = b.same ∙ a.same }
+
+pub puts_none : (p : Page) → Puts [] p p
+puts_none p = record { put = put_none _ _; same = refl }
+
+pub puts_same : {s t : List ℕ} {p q : Page} → s ≡ t → Puts s p q → Puts t p q
+puts_same {p = p} {q = q} e a = subst (λ s. Puts s p q) e a
+
+-- a text put on a page that was new, and what the caller lent for it then holds
+pub put_lent : {text old new : List ℕ} {name : ℕ} {p q : Page} → p.out.ghost_name ≡ name → p.out.now ≡ old → p.at ≡ 0 → Puts text p q
+    → (name ≡ q.out.ghost_name → new ≡ q.out.now) → Put text old 0 new q.at
+put_lent {text} n o z w f =
+    record { page_is = f (sym n ∙ sym w.same) ∙ w.put.page_is ∙ ap₂ (λ l i. sets l i text) o z; end_is = omega (arith, w.put.end_is, z) }
+
+-- a word copied into a part of a page
+pub put_part : (word old part : List ℕ) (at k : ℕ) → k ≡ length word → at + length word ≤ length old → part ≡ word → put_mid at k old part ≡ sets old at word
+put_part word old part at k n l e =
+    ap₂ (λ p j. take at old ++ (p ++ drop j (drop at old))) e n
+    ∙ ap (λ r. take at old ++ (word ++ r)) (drop-drop (length word) at old)
+    ∙ sym (append_assoc (take at old) word (drop (at + length word) old))
+    ∙ sym (sets-eq word old at l)
 
 -- A number's digits
 
@@ -77,33 +99,20 @@ decimal_short (suc k) n l = go (dec_lt n 10) (decimal_short k (n / 10) (omega (a
     go (yes p) h = rw (decimal_low n p) (omega arith)
     go (no p) h = omega (arith, length_more n (omega arith))
 
--- Two texts, compared from a place on
+-- Two texts, from a place on, and compared
 
 -- one byte more to look at
 pub drop_next : (t : List ℕ) (i : ℕ) → i < length t → drop i t ≡ get_or t i 0 ∷ drop (i + 1) t
 drop_next t i l = rw (add-one i) (drop-cons t i 0 l)
 
-pub same_lengths : (a b : List ℕ) → (length a ≡ length b → ⊥) → same_text a b ≡ false
+-- what std's equality of slices answers
+pub same_is : (a b : List ℕ) → pointwise eqb a b ≡ same_text a b
 unfolding same_text
-same_lengths [] [] h = absurd (h refl)
-same_lengths [] (y ∷ ys) h = refl
-same_lengths (x ∷ xs) [] h = refl
-same_lengths (x ∷ xs) (y ∷ ys) h = go (eqb x y) (same_lengths xs ys (λ e. h (ap suc e)))
+same_is [] [] = refl
+same_is [] (y ∷ ys) = refl
+same_is (x ∷ xs) [] = refl
+same_is (x ∷ xs) (y ∷ ys) = go (eqb x y) (same_is xs ys)
   where
-    go : (t : Bool) → same_text xs ys ≡ false → cond t (same_text xs ys) false ≡ false
+    go : (t : Bool) → pointwise eqb xs ys ≡ same_text xs ys → (t && pointwise eqb xs ys) ≡ cond t (same_text xs ys) false
     go true e = e
     go false e = refl
-
-module _ (a b : List ℕ) (i : ℕ) where
-  pub same_end : length a ≤ i → length b ≤ i → same_text (drop i a) (drop i b) ≡ true
-  unfolding same_text
-  same_end l m = rw (drop_of_length-le a l, drop_of_length-le b m)
-
-  module _ (l : i < length a) (m : i < length b) where
-    pub same_stop : (get_or a i 0 ≡ get_or b i 0 → ⊥) → same_text (drop i a) (drop i b) ≡ false
-    unfolding same_text
-    same_stop h = rw (drop_next a i l, drop_next b i m, ne_eqb (get_or a i 0) (get_or b i 0) h)
-
-    pub same_on : get_or a i 0 ≡ get_or b i 0 → same_text (drop i a) (drop i b) ≡ same_text (drop (i + 1) a) (drop (i + 1) b)
-    unfolding same_text
-    same_on h = rw (drop_next a i l, drop_next b i m, eq-eqb (get_or a i 0) (get_or b i 0) h)

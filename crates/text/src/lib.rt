@@ -1,83 +1,77 @@
-// Text, put byte by byte into a lent page: each function puts a text at a place, and hands back the place after it. And two texts compared.
+// Text, put byte by byte onto a lent page.
 #![tactic(auto)]
 
 ghost use Rattle.std.specs.Prelude.{◌≡◌, [], ◌∷◌, ◌+◌, ◌<◌, ◌≤◌, length};
-ghost use Rattle.text.specs.Text.{digit as digit_byte, decimal, numbered, named, same_text};
-ghost use Rattle.text.specs.Inner.Put.{Put};
 
-// One byte.
-pub fn put(out: &mut [u8; 20480], at: usize, b: u8) -> usize
-    requires { at < 20480 }
-    ensures { Put (b ∷ []) out.old at out.new result }
-{
-    out[at] = b;
-    at + 1
+// A lent page, and the place where its text ends so far.
+#[derive(Drop)]
+pub struct Page<'a> {
+    pub out: &'a mut [u8; 20480],
+    pub at: usize,
+    ghost whole: { length out.now ≡ 20480 },
 }
 
-// The bytes of a word.
-pub fn put_word(out: &mut [u8; 20480], at: usize, word: &[u8]) -> usize
-    requires { at + length word.now ≤ 20480 }
-    ensures { Put word.now out.old at out.new result }
-{
-    let mut end = at;
-    let mut i: usize = 0;
-    while i < word.len() {
-        end = put(out, end, word[i]);
-        i += 1;
+impl<'a> Page<'a> {
+    ghost use Rattle.text.specs.Text.{decimal, numbered, named};
+    ghost use Rattle.text.specs.Inner.Put.{Puts};
+
+    // A page of which nothing is written yet.
+    pub fn new(out: &'a mut [u8; 20480]) -> Page<'a>
+        ensures same_room { result.out.ghost_name ≡ out.entry.ghost_name }
+        ensures as_it_was { result.out.now ≡ out.old }
+        ensures front { result.at ≡ 0 }
+    {
+        Page { out, at: 0 }
     }
-    end
-}
 
-fn digit(d: usize) -> u8
-    requires { d < 10 }
-    ensures { result ≡ digit_byte d }
-{
-    48 + d as u8
-}
-
-// A number, in decimal.
-pub fn put_decimal(out: &mut [u8; 20480], at: usize, n: usize) -> usize
-    requires { at + length (decimal n) ≤ 20480 }
-    ensures { Put (decimal n) out.old at out.new result }
-{
-    if n < 10 {
-        return put(out, at, digit(n));
+    // One byte.
+    pub fn put(&mut self, b: u8)
+        requires { self.old.at < 20480 }
+        ensures { Puts (b ∷ []) self.old self.new }
+    {
+        self.out[self.at] = b;
+        self.at += 1;
     }
-    let end = put_decimal(out, at, n / 10);
-    put(out, end, digit(n % 10))
-}
 
-// A number and the byte after it.
-pub fn put_number(out: &mut [u8; 20480], at: usize, n: usize, after: u8) -> usize
-    requires { at + length (numbered n after) ≤ 20480 }
-    ensures { Put (numbered n after) out.old at out.new result }
-{
-    let end = put_decimal(out, at, n);
-    put(out, end, after)
-}
-
-// A word, a number and the byte after it.
-pub fn put_named(out: &mut [u8; 20480], at: usize, word: &[u8], n: usize, after: u8) -> usize
-    requires { at + length (named word.now n after) ≤ 20480 }
-    ensures { Put (named word.now n after) out.old at out.new result }
-{
-    let end = put_word(out, at, word);
-    put_number(out, end, n, after)
-}
-
-// Whether two texts are the same.
-pub fn same(a: &[u8], b: &[u8]) -> bool
-    ensures { result ≡ same_text a.now b.now }
-{
-    if a.len() != b.len() {
-        return false;
+    // The bytes of a word.
+    pub fn put_word(&mut self, word: &[u8])
+        requires { self.old.at + length word.now ≤ 20480 }
+        ensures { Puts word.now self.old self.new }
+    {
+        let end = self.at + word.len();
+        let out = &mut *self.out;
+        out[self.at..end].copy_from_slice(word);
+        self.at = end;
     }
-    let mut i: usize = 0;
-    while i < a.len() {
-        if a[i] != b[i] {
-            return false;
+
+    // A number, in decimal.
+    pub fn put_decimal(&mut self, n: usize)
+        requires { self.old.at + length (decimal n) ≤ 20480 }
+        ensures { Puts (decimal n) self.old self.new }
+    {
+        if n < 10 {
+            self.put(b'0' + n as u8);
+        } else {
+            self.put_decimal(n / 10);
+            self.put(b'0' + (n % 10) as u8);
         }
-        i += 1;
     }
-    true
+
+    // A number and the byte after it.
+    pub fn put_number(&mut self, n: usize, after: u8)
+        requires { self.old.at + length (numbered n after) ≤ 20480 }
+        ensures { Puts (numbered n after) self.old self.new }
+    {
+        self.put_decimal(n);
+        self.put(after);
+    }
+
+    // A word, a number and the byte after it.
+    pub fn put_named(&mut self, word: &[u8], n: usize, after: u8)
+        requires { self.old.at + length (named word.now n after) ≤ 20480 }
+        ensures { Puts (named word.now n after) self.old self.new }
+    {
+        self.put_word(word);
+        self.put_number(n, after);
+    }
 }

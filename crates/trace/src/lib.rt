@@ -3,146 +3,123 @@
 
 ghost use Rattle.std.specs.Prelude.{◌≡◌, true, false, List, ◌+◌, ◌-◌, ◌<◌, ◌≤◌, length};
 ghost use Rattle.std.proofs.lemmas.List.Edits.{sets};
-ghost use Rattle.rule.specs.Net.{Net, pins};
+ghost use Rattle.std.specs.Option.{unwrap_or};
+ghost use Rattle.std.proofs.Props.{props};
+ghost use Rattle.rule.specs.Net.{Net, pins, open_pin};
 ghost use Rattle.rule.specs.Cause.{causes};
 ghost use Rattle.card_wiring.specs.Layout.{pins_at};
 ghost use Rattle.session.specs.Good.{Good};
 ghost use Rattle.trace.specs.Traced.{trace_of};
-ghost use Rattle.trace.specs.Inner.Caused.{moved_at, Readable, first_moved, Caused};
+ghost use Rattle.trace.specs.Inner.Caused.{moved_at, Readable, Readable-prop, first_moved, Caused};
 
 use card::Session;
 use rule::{Answer, Refusal};
 use word::PcSet;
 
-// Whether net n changed at time t.
-fn moved_at<'a>(words: &'a [u64; 256], before: &'a [bool; 256], n: usize, t: u32) -> bool
-    requires { (n < 256) × (t < 64) }
-    ensures { result ≡ moved_at before.now words.now n t }
-{
-    let w = PcSet { word: words[n] };
-    if t == 0 {
-        return w.has(0) ^ before[n];
-    }
-    w.has(t) ^ w.has(t - 1)
-}
-
-// The same of what a pin names; an open pin never changes.
-fn pin_moved<'a>(words: &'a [u64; 256], before: &'a [bool; 256], p: u16, t: u32) -> bool
-    requires { (t < 64) × Readable p }
-    ensures { result ≡ moved_at before.now words.now p t }
-{
-    let n = card_wiring::wide16(p);
-    if 256 <= n {
-        return false;
-    }
-    moved_at(words, before, n, t)
-}
-
-// The first pin of gate g that changed at time t.
-fn first_pin<'a>(
+// What the walk back reads: the last vector's words over the before values, and what each gate's pins name. Each change after time 0 has its cause there.
+#[derive(Clone, Copy)]
+struct Run<'a> {
     words: &'a [u64; 256],
     before: &'a [bool; 256],
     counts: &'a [u8; 256],
     places: &'a [u16; 2048],
-    g: usize,
-    t: u32,
-) -> u16
-    requires g_bound { (g < 256) × (t < 64) }
-    requires caused { Caused words.now before.now counts.now places.now }
-    ensures { result ≡ first_moved words.now before.now counts.now places.now g t }
-{
-    let count = card_wiring::wide(counts[g]);
-    let mut j: usize = 0;
-    while j < count {
-        let p = places[g * 8 + j];
-        if pin_moved(words, before, p, t) {
-            return p;
+    ghost caused: { Caused words.now before.now counts.now places.now } by { Prim.hlevel (props, Readable-prop) },
+}
+
+impl<'a> Run<'a> {
+    // Whether net n changed at time t.
+    fn moved(&self, n: usize, t: u32) -> bool
+        requires { (n < 256) × (t < 64) }
+        ensures { result ≡ moved_at self.now.before.now self.now.words.now n t }
+    {
+        let w = PcSet {
+            word: self.words[n],
+        };
+        if t == 0 {
+            return w.has(0) ^ self.before[n];
         }
-        j += 1;
+        w.has(t) ^ w.has(t - 1)
     }
-    card_wiring::OPEN
-}
 
-// A net's cause: it writes its net, and, after time 0, asks its gate.
-#[cycle(gate_cause_net_cause)]
-fn net_cause<'a>(
-    words: &'a [u64; 256],
-    before: &'a [bool; 256],
-    counts: &'a [u8; 256],
-    places: &'a [u16; 2048],
-    n: usize,
-    t: u32,
-    room: &mut [u16],
-    at: usize,
-)
-    requires caused { Caused words.now before.now counts.now places.now }
-    requires n_bound { (n < 256) × (t < 64) × (moved_at before.now words.now n t ≡ true) × (at + t < length room.old) }
-    ensures { (c : List Net) → pins_at counts.now places.now ≡ pins c → room.new
-        ≡ sets room.old at (causes c (moved_at before.now words.now) n t) }
-{
-    room[at] = n as u16;
-    if 0 < t {
-        gate_cause(words, before, counts, places, n, t, room, at + 1);
+    // The same of what a pin names; an open pin never changes.
+    fn pin_moved(&self, p: u16, t: u32) -> bool
+        requires { (t < 64) × Readable p }
+        ensures { result ≡ moved_at self.now.before.now self.now.words.now p t }
+    {
+        let n = usize::from(p);
+        if 256 <= n {
+            return false;
+        }
+        self.moved(n, t)
     }
-}
 
-// A gate's cause: the first pin that changed one unit earlier, and that net's.
-#[cycle(gate_cause_net_cause)]
-fn gate_cause<'a>(
-    words: &'a [u64; 256],
-    before: &'a [bool; 256],
-    counts: &'a [u8; 256],
-    places: &'a [u16; 2048],
-    g: usize,
-    t: u32,
-    room: &mut [u16],
-    at: usize,
-)
-    requires caused { Caused words.now before.now counts.now places.now }
-    requires g_bound { (g < 256) × (0 < t) × (t < 64) × (moved_at before.now words.now g t ≡ true) × (at + t ≤ length room.old) }
-    ensures { (c : List Net) → pins_at counts.now places.now ≡ pins c → room.new
-        ≡ sets room.old at
-        (causes c (moved_at before.now words.now)
-        (first_moved words.now before.now counts.now places.now g (t - 1)) (t - 1)) }
-{
-    let p = first_pin(words, before, counts, places, g, t - 1);
-    net_cause(
-        words,
-        before,
-        counts,
-        places,
-        card_wiring::wide16(p),
-        t - 1,
-        room,
-        at,
-    );
+    // The first pin of gate g that changed at time t.
+    fn first_pin(&self, g: usize, t: u32) -> Option<u16>
+        requires { (g < 256) × (t < 64) }
+        ensures { unwrap_or result open_pin
+            ≡ first_moved self.now.words.now self.now.before.now self.now.counts.now self.now.places.now g t }
+    {
+        let pins = &self.places[g * 8..g * 8 + usize::from(self.counts[g])];
+        pins.iter().copied().find(|p| self.pin_moved(*p, t))
+    }
+
+    // A net's cause: it writes its net, and, after time 0, asks its gate.
+    #[cycle(gate_cause_net_cause)]
+    fn net_cause(&self, n: usize, t: u32, room: &mut [u16], at: usize)
+        requires { (n < 256) × (t < 64) × (moved_at self.now.before.now self.now.words.now n t ≡ true) × (at + t < length room.old) }
+        ensures { (c : List Net) → pins_at self.now.counts.now self.now.places.now ≡ pins c → room.new
+            ≡ sets room.old at (causes c (moved_at self.now.before.now self.now.words.now) n t) }
+    {
+        room[at] = n as u16;
+        if 0 < t {
+            self.gate_cause(n, t, room, at + 1);
+        }
+    }
+
+    // A gate's cause: the first pin that changed one unit earlier, and that net's.
+    #[cycle(gate_cause_net_cause)]
+    fn gate_cause(&self, g: usize, t: u32, room: &mut [u16], at: usize)
+        requires { (g < 256) × (0 < t) × (t < 64) × (moved_at self.now.before.now self.now.words.now g t ≡ true) × (at + t ≤ length room.old) }
+        ensures { (c : List Net) → pins_at self.now.counts.now self.now.places.now ≡ pins c → room.new
+            ≡ sets room.old at
+            (causes c (moved_at self.now.before.now self.now.words.now)
+            (first_moved self.now.words.now self.now.before.now self.now.counts.now self.now.places.now g (t - 1)) (t - 1)) }
+    {
+        if let Some(p) = self.first_pin(g, t - 1) {
+            self.net_cause(usize::from(p), t - 1, room, at);
+        }
+    }
 }
 
 // The trace of a change of net n at time t to an input at time 0, t + 1 nets, into lent room.
-pub fn trace(s: Session, n: u64, t: u64, room: &mut [u16]) -> Answer
-    requires { Good s }
-    ensures { record { answer = result; room = room.new } ≡ trace_of s n t room.old }
+pub fn trace(s: &Session, n: u64, t: u64, room: &mut [u16]) -> Answer
+    requires { Good s.now }
+    ensures { record { answer = result; room = room.new } ≡ trace_of s.now n t room.old }
 {
     if !s.rested {
-        return Answer::Refused(Refusal::NotReady);
+        return Err(Refusal::NotReady);
     }
     if s.nets as u64 <= n {
-        return Answer::Refused(Refusal::NoSuchNet);
+        return Err(Refusal::NoSuchNet);
     }
     if 63 < t {
-        return Answer::Refused(Refusal::NoChange);
+        return Err(Refusal::NoChange);
     }
     let net = n as usize;
     let time = t as u32;
-    if !moved_at(&s.words, &s.before, net, time) {
-        return Answer::Refused(Refusal::NoChange);
+    let run = Run {
+        words: &s.words,
+        before: &s.before,
+        counts: &s.counts,
+        places: &s.places,
+    };
+    if !run.moved(net, time) {
+        return Err(Refusal::NoChange);
     }
     let length = t as usize + 1;
     if room.len() < length {
-        return Answer::Refused(Refusal::NoRoom);
+        return Err(Refusal::NoRoom);
     }
-    net_cause(
-        &s.words, &s.before, &s.counts, &s.places, net, time, room, 0,
-    );
-    Answer::Done(length)
+    run.net_cause(net, time, room, 0);
+    Ok(length)
 }

@@ -8,7 +8,7 @@ use Rattle.fields.proofs.Fields.{field_made}
 use Rattle.fields.proofs.field_of.Goals as goal
 
 pub rule_of-rule-requires : goal.rule_of-rule-requires
-rule_of-rule-requires c = omega (arith, c.wide-ty.ensures, c.requires.gates.type)
+rule_of-rule-requires c = omega (arith, c.from-ty.ensures, c.requires.gates.type)
 
 pub gather-all-requires : goal.gather-all-requires
 gather-all-requires c =
@@ -18,8 +18,8 @@ gather-all-requires c =
 pub returns : goal.returns
 returns c =
     let a = c.args in
-    let ty = c.wide-ty.ensures in
+    let ty = c.from-ty.ensures in
     let pins = pins_at a.counts.now a.places.now a.g in
-    field_made a.words.now a.counts.now a.places.now a.g c.top.result c.rule_of-rule.result.inversion c.wide-ty.result c.gather-all.result c.field.result
+    field_made a.words.now a.counts.now a.places.now a.g c.top.result c.rule_of-rule.result.inversion c.from-ty.result c.gather-all.result c.field.result
     (λ l. c.requires.gates.single (omega (arith, ty, l))) c.rule_of-rule.ensures.1 c.gather-all.ensures (omega (arith, c.field.type_inv)) c.field.ensures
     ∙ ap₂ (λ low k. field_of low k (map (pin_word a.words.now) pins)) c.top.ensures ty

@@ -1,26 +1,26 @@
--- `step_orders::entries_fit` meets its contract. The loop's invariant: the first i entries are steps' numbers, each once, and are marked. The
--- measure is what is left of the order. Assumes nothing.
+-- `step_orders::entries_fit` meets its contract. The loop's invariant: the first i entries are steps' numbers, each once, and are marked.
+-- Assumes nothing.
 use native.Mathlib.Omega.{arith}
 use Rattle.step_orders.proofs.Seen.{seen_none, seen_more, seen_past, seen_twice, seen_all}
 use Rattle.step_orders.proofs.entries_fit.Goals as goal
 
-pub loop-i-init : goal.loop-i-init
-loop-i-init c = (omega arith, seen_none c.args.total c.args.order.now)
+pub loop-entry-init : goal.loop-entry-init
+loop-entry-init c = (omega arith, seen_none c.args.total c.args.order.now)
 
 pub returns-then-total-e : goal.returns-then-total-e
 returns-then-total-e c =
-    let l = c.loop-i in
-    seen_past c.args.total c.args.order.now l.i c.wide16-e.result (omega arith) c.wide16-e.ensures (omega arith)
+    let l = c.loop-entry in
+    seen_past c.args.total c.args.order.now l.entry-index c.from-e.result (omega arith) c.from-e.ensures (omega arith)
 
 pub returns-then-seen-e : goal.returns-then-seen-e
 returns-then-seen-e c =
-    let l = c.loop-i in
-    seen_twice c.args.total c.args.order.now l.seen l.i c.wide16-e.result l.invariant.1 (omega arith) c.wide16-e.ensures (omega arith) c.if-seen-e.true
+    let l = c.loop-entry in
+    seen_twice c.args.total c.args.order.now l.seen l.entry-index c.from-e.result l.invariant.1 (omega arith) c.from-e.ensures (omega arith) c.if-seen-e.true
 
-pub loop-i-preserved : goal.loop-i-preserved
-loop-i-preserved c =
-    let l = c.loop-i in
-    (omega arith, seen_more c.args.total c.args.order.now l.seen l.i c.wide16-e.result l.invariant.1 (omega arith) (omega arith) c.wide16-e.ensures (omega arith) c.if-seen-e.false)
+pub loop-entry-preserved : goal.loop-entry-preserved
+loop-entry-preserved c =
+    let l = c.loop-entry in
+    (omega arith, seen_more c.args.total c.args.order.now l.seen l.entry-index c.from-e.result l.invariant.1 (omega arith) (omega arith) c.from-e.ensures (omega arith) c.if-seen-e.false)
 
 pub returns : goal.returns
-returns c = seen_all c.args.total c.args.order.now c.loop-i.seen c.loop-i.i c.loop-i.invariant.1 (omega arith)
+returns c = seen_all c.args.total c.args.order.now c.loop-entry.seen c.loop-entry.entry-index c.loop-entry.invariant.1 (omega arith)

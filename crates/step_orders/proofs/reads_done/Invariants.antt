@@ -1,13 +1,9 @@
 use mathlib.Core.Path.{◌≡◌}
 use mathlib.Core.Bool.{true}
-use Prim.Native.Nat.{◌-◌, ◌≤◌}
 use Rattle.lists.specs.Entries.{every}
 use Rattle.lists.specs.Listed.{listed}
 use Rattle.step_orders.proofs.Marking.{pin_done, pin_of}
 use Rattle.step_orders.proofs.reads_done.Given as goal
 
 abbrev pub invariant-loop-j : goal.invariant-loop-j
-invariant-loop-j l = (l.j ≤ l.count) × (l.count ≤ 8) × (every (pin_done l.done l.counts l.places l.sets l.g l.t) (listed (pin_of l.done l.counts l.places l.sets l.g l.t) l.j) ≡ true)
-
-abbrev pub decreases-loop-j : goal.decreases-loop-j
-decreases-loop-j l = l.count - l.j
+invariant-loop-j l = every (pin_done l.done l.counts l.places l.sets l.g l.t) (listed (pin_of l.done l.counts l.places l.sets l.g l.t) l.j) ≡ true

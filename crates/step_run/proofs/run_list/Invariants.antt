@@ -5,8 +5,5 @@ use Rattle.step_list.specs.Inner.Listing.{steps_named}
 use Rattle.step_run.specs.Runs.{ran}
 use Rattle.step_run.proofs.run_list.Given as goal
 
-abbrev pub invariant-loop-done : goal.invariant-loop-done
-invariant-loop-done l = (l.done ≤ l.total) × Words l.vars × (record { words = l.vars; count = l.done } ≡ ran l.types l.counts l.places l.sets l.initial.vars (steps_named l.nets l.times l.done))
-
-abbrev pub decreases-loop-done : goal.decreases-loop-done
-decreases-loop-done l = l.total - l.done
+abbrev pub invariant-loop-e : goal.invariant-loop-e
+invariant-loop-e l = Words l.vars × (record { words = l.vars; count = l.e } ≡ ran l.types l.counts l.places l.sets l.initial.vars (steps_named l.nets l.times l.e)) × (l.done ≡ l.e)

@@ -10,7 +10,7 @@ use Rattle.inputs.specs.Inner.Starts.{tops_of}
 use Rattle.step_vars.specs.Variables.{histories_from}
 use Rattle.step_vars.specs.Inner.Variables.{StepTime, start_in}
 use Rattle.step_list.specs.Inner.Listing.{numbered_step}
-use Rattle.std.specs.Prelude.{Ok, Err}
+use Rattle.std.specs.Prelude.{Ok}
 use Rattle.card.specs.declared.Session.{Session}
 use Rattle.session.specs.Moved.{Moved}
 use Rattle.step_run.specs.declared.Advanced.{Advanced}

@@ -1,4 +1,4 @@
--- `step_vars::gather` meets its contract. The loop's invariant: the value is what the first j pins come to. The measure is what is left of the pins.
+-- `step_vars::gather` meets its contract. The loop's invariant: the value is what the first j pins come to.
 -- Assumes nothing.
 use mathlib.Core.Path.{ap, ◌∙◌}
 use Prim.Native.Nat.{◌+◌, ◌*◌}
@@ -19,15 +19,15 @@ read_at-known-requires c =
 pub loop-j-init : goal.loop-j-init
 loop-j-init c =
     let a = c.args in
-    let e = c.wide-count.ensures in
+    let e = c.from-count.ensures in
     let read = read_in a.sets.now a.t (get_or a.places.now (a.g * 8) 0) in
     let value = c.read_at-known.ensures ∙ ap (λ loose. held_in loose a.vars.now read) c.open_value-loose.ensures in
-    (omega (arith, e, c.requires.g_bound.1), omega (arith, c.requires.wires.narrow a.g), gather_first (pin_value a.vars.now a.sets.now a.t) a.places.now a.g a.ty _ value)
+    (omega (arith, c.requires.wires.narrow a.g), gather_first (pin_value a.vars.now a.sets.now a.t) a.places.now a.g a.ty _ value)
 
 pub read_at-requires : goal.read_at-requires
 read_at-requires c =
     let a = c.args in
-    let e = c.wide-count.ensures in
+    let e = c.from-count.ensures in
     (c.requires.g_bound.3, pin_fitting a.counts.now a.places.now a.n a.g c.loop-j.j c.requires.wires c.requires.fitting (omega arith))
 
 pub with_pin-known-requires : goal.with_pin-known-requires
@@ -40,13 +40,12 @@ loop-j-preserved c =
     let read = read_in a.sets.now a.t (get_or a.places.now (a.g * 8 + l.j) 0) in
     let value = c.read_at.ensures ∙ ap (λ loose. held_in loose a.vars.now read) c.open_value-loose.ensures in (
       omega arith,
-      omega arith,
-      gather_more (pin_value a.vars.now a.sets.now a.t) a.places.now a.g a.ty l.j _ _ _ l.invariant.2 value (c.with_pin-known.ensures 0),
+      gather_more (pin_value a.vars.now a.sets.now a.t) a.places.now a.g a.ty l.j _ _ _ l.invariant.1 value (c.with_pin-known.ensures 0),
     )
 
 pub returns : goal.returns
 returns c =
     let a = c.args in
-    let w = c.wide-count.ensures in
+    let w = c.from-count.ensures in
     let l = c.loop-j in
-    gather_all (pin_value a.vars.now a.sets.now a.t) a.places.now a.g a.ty a.counts.now l.j l.known (omega arith) l.invariant.2
+    gather_all (pin_value a.vars.now a.sets.now a.t) a.places.now a.g a.ty a.counts.now l.j l.known (omega (arith, l.auto.j-end, c.requires.g_bound.1)) l.invariant.1

@@ -5,7 +5,7 @@ use Rattle.step_vars.proofs.Stores.{step_made}
 use Rattle.step_vars.proofs.step.Goals as goal
 
 pub rule_of-rule-requires : goal.rule_of-rule-requires
-rule_of-rule-requires c = omega (arith, c.wide-ty.ensures, c.requires.gates.type)
+rule_of-rule-requires c = omega (arith, c.from-ty.ensures, c.requires.gates.type)
 
 pub gather-all-requires : goal.gather-all-requires
 gather-all-requires c = record { wires = c.requires.wires; fitting = c.requires.fitting; g_bound = (c.requires.gates.net, c.requires.gates.pinned, c.rule_of-rule.ensures.0, c.requires.step_time.0.late) }
@@ -13,7 +13,7 @@ gather-all-requires c = record { wires = c.requires.wires; fitting = c.requires.
 pub returns : goal.returns
 returns c =
     let a = c.args in
-    let ty = c.wide-ty in
+    let ty = c.from-ty in
     let rule = c.rule_of-rule in
     let all = c.gather-all in
     let b = c.gate_value-b in

@@ -1,6 +1,11 @@
 -- Inner: cited by contracts between functions alone, and by laws. What the walk back along the causes needs of the arrays. Each change has its cause there:
 -- `session_caused` (trace/proofs/Moved.antt). Assumes nothing.
 use Rattle.std.specs.Prelude.{◌≡◌, Bool, true, false, List, ◌⊎◌, ℕ, ◌-◌, ◌≤◌, ◌<◌, get_or}
+use mathlib.Core.Logic.{inl, inr}
+use mathlib.Core.HLevel.{hedberg}
+use native.Mathlib.Decide.{ℕ_discrete}
+use native.Mathlib.Omega.{arith}
+use Rattle.std.specs.Coded.{le_prop}
 use Rattle.lists.specs.Entries.{◌∈◌}
 use Rattle.rule.specs.Net.{open_pin}
 use Rattle.rule.specs.Cause.{first_pin}
@@ -14,6 +19,14 @@ moved_at before words = changed_by (λ m. get_or before m false) (λ m. get_or w
 -- a pin names a place of the arrays or is open
 abbrev pub Readable : ℕ → Type 0
 Readable p = (p < 256) ⊎ (p ≡ open_pin)
+
+-- in one way at most
+pub Readable-prop : (p : ℕ) → IsProp (Readable p)
+unfolding open_pin
+Readable-prop p (inl a) (inl b) = λ i. inl (le_prop a b i)
+Readable-prop p (inl a) (inr e) = absurd (omega arith)
+Readable-prop p (inr e) (inl b) = absurd (omega arith)
+Readable-prop p (inr e) (inr f) = λ i. inr (hedberg ℕ_discrete p open_pin e f i)
 
 -- the first pin of gate g that changed at time t
 abbrev pub first_moved : List ℕ → List Bool → List ℕ → List ℕ → ℕ → ℕ → ℕ

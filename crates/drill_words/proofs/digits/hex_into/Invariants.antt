@@ -1,11 +1,8 @@
-use Prim.Native.Nat.{◌*◌, ◌-◌, ◌≤◌}
+use Prim.Native.Nat.{◌*◌}
 use lib.ListN.{drop}
 use Rattle.drill_words.specs.Digits.{bytes_of}
 use Rattle.drill_words.proofs.Filling.{Filling}
 use Rattle.drill_words.proofs.digits.hex_into.Given as goal
 
 abbrev pub invariant-loop-i : goal.invariant-loop-i
-invariant-loop-i l = (l.i ≤ l.n) × Filling (bytes_of l.word) l.initial.out l.out l.i (bytes_of (drop (2 * l.i) l.word))
-
-abbrev pub decreases-loop-i : goal.decreases-loop-i
-decreases-loop-i l = l.n - l.i
+invariant-loop-i l = Filling (bytes_of l.word) l.initial.out l.out l.i (bytes_of (drop (2 * l.i) l.word))

@@ -1,13 +1,6 @@
--- A digit's value, or 0: `nibble_of`, at the test. Assumes nothing.
-use native.Mathlib.Omega.{arith}
-use borrow.Author.Tests.{lt-ltb, le-ltb}
-use Rattle.drill_words.specs.Digits.{nibble_of}
+-- A digit's value, or 0: what std reads of a byte. Assumes nothing.
+use Rattle.drill_words.proofs.Spelling.{nibble_read}
 use Rattle.drill_words.proofs.digits.nibble_of.Goals as goal
 
-pub returns-then-d-lt16 : goal.returns-then-d-lt16
-unfolding nibble_of
-returns-then-d-lt16 c = (rw (← c.digit_of-d.ensures.0, lt-ltb c.digit_of-d.result 16 (omega arith)), omega arith)
-
-pub returns-else-d-lt16 : goal.returns-else-d-lt16
-unfolding nibble_of
-returns-else-d-lt16 c = (rw (← c.digit_of-d.ensures.0, le-ltb c.digit_of-d.result 16 (omega arith)), omega arith)
+pub returns : goal.returns
+returns c = rw c.unwrap_or.ensures (nibble_read c.args.b c.from.result c.to_digit.result c.from.ensures c.to_digit.ensures.value)

@@ -1,21 +1,17 @@
--- How many words: one, and one more for each blank passed. Assumes nothing.
-use mathlib.Core.Path.{refl}
-use native.Mathlib.Omega.{arith}
-use Rattle.drill_words.proofs.Parted.{later_stop, later_on, later_end}
+-- How many words: as many as the parts that the line is split into. Assumes nothing.
+use mathlib.Core.Path.{ap, ◌∙◌}
+use lib.Dec.{eqb}
+use lib.ListN.{length}
+use Rattle.std.proofs.Common.{rules}
+use borrow.Author.Tests.{tests}
+use Rattle.std.proofs.lemmas.Iterator.Consumers.{count_from_yields_List}
+use Rattle.std.proofs.lemmas.Iterator.Splits.{YieldsList-from_slice_split}
+use Rattle.drill_words.proofs.Parted.{parts_split}
 use Rattle.drill_words.proofs.parts.word_count.Goals as goal
-use Rattle.drill_words.proofs.parts.word_count.Goals.{then-line-i-eq32, else-line-i-eq32}
-
-pub loop-i-init : goal.loop-i-init
-loop-i-init c = (omega arith, omega arith, refl)
-
-pub loop-i-preserved : goal.loop-i-preserved
-loop-i-preserved c =
-    let line = c.args.line.now in
-    let i = c.loop-i.i in
-    elim c.if-line-i-eq32.branch [
-      | then-line-i-eq32 w ↦ omega (arith, later_stop 32 line i (omega arith) w.if-line-i-eq32.true)
-      | else-line-i-eq32 w ↦ omega (arith, later_on 32 line i (omega arith) w.if-line-i-eq32.false)
-    ]
 
 pub returns : goal.returns
-returns c = omega (arith, later_end 32 c.args.line.now c.loop-i.i (omega arith))
+returns c =
+    let line = c.args.line.now in
+    let split = c.split.ensures in
+    count_from_yields_List _ _ c.count.ensures.ran (YieldsList-from_slice_split _ (λ b. eqb b 32) line split.rest split.done split.closure (λ x b q h. search (rules, tests)))
+    ∙ ap length (parts_split 32 line)

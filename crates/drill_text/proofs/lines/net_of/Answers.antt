@@ -1,5 +1,0 @@
--- `net N`: as its number was read. Assumes nothing.
-use Rattle.drill_text.proofs.lines.net_of.Goals as goal
-
-pub returns-in-Spelled : goal.returns-in-Spelled
-returns-in-Spelled c = rw c.in-Spelled.is
