@@ -1,5 +1,4 @@
 use mathlib.Core.Path.{◌≡◌}
-use Prim.Native.Nat.{◌-◌, ◌≤◌}
 use Rattle.step_vars.specs.Inner.Variables.{Words}
 use Rattle.step_list.specs.Inner.Listing.{steps_named}
 use Rattle.step_run.specs.Runs.{ran}

@@ -1,5 +1,4 @@
 use mathlib.Core.Path.{◌≡◌}
-use Prim.Native.Nat.{◌-◌, ◌≤◌}
 use Rattle.step_vars.specs.Inner.Variables.{Words}
 use Rattle.step_run.specs.Runs.{ran}
 use Rattle.step_run.specs.Inner.Runs.{ordered_steps}
