@@ -11,7 +11,7 @@ use native.Mathlib.Numerals.{add-one}
 use native.Mathlib.Omega.{arith}
 use native.Mathlib.Decide.{dec_lt}
 use lib.Dec.{eqb}
-use lib.ListN.{length, get_or, set, replicate, length-append, get_or-append, get_or-eq_default}
+use lib.ListN.{length, get_or, take, set, replicate, length-append, get_or-append, get_or-eq_default}
 use lib.Seq.{get_or-append_seam}
 use borrow.Author.Tests.{eq-eqb, eqb-true}
 use Rattle.lists.specs.Entries.{◌∈◌, each, when, from, Distinct}
@@ -19,11 +19,12 @@ use Rattle.lists.specs.Listed.{listed}
 use Rattle.lists.proofs.Joined.{from_more, each_append, out_each, out_when, out_from}
 use Rattle.lists.proofs.Order.{read_all, sorted_append, sorted_each, sorted_when, sorted_one, sorted_from}
 use Rattle.lists.proofs.Number.{distinct_below}
-use Rattle.lists.proofs.Listed.{listed_set, listed_same, listed_at, listed_all, is_listed}
+use Rattle.lists.proofs.Listed.{length_listed, listed_set, listed_same, listed_at, listed_all, is_listed}
 use Rattle.card_wiring.specs.declared.Order.{Order}
 use Rattle.card_wiring.specs.Inner.Wires.{row, order_of}
 use Rattle.card_wiring.specs.Layout.{padded}
 use Rattle.card_wiring.specs.Inner.Wired.{as_order, with_gate}
+use Rattle.card_wiring.proofs.Pins.{front_listed}
 
 abbrev Apart : ℕ → ℕ → Type 0
 Apart x y = ¬ (x ≡ y)
@@ -113,10 +114,6 @@ module _ (levels : List ℕ) where
       below : (x : ℕ) → x ∈ order_of levels n (l - 1) ++ row levels (g + 1) l → x < n
       below x m = ⊎_elim (λ a. (out_order n (l - 1) x a).1) (λ a. omega (arith, (out_row (g + 1) l x a).1)) (Memᴰ.append_cases (order_of levels n (l - 1)) m)
 
-  -- and each fits its place
-  order_below : (n d i : ℕ) → n ≤ 256 → get_or (padded (order_of levels n d)) i 0 < 256
-  order_below n d i few = padded_all (λ x. x < 256) (order_of levels n d) i (λ g m. omega (arith, (out_order n d g m).1)) (omega arith)
-
 -- A list at the front of an array
 
 padded_none : replicate 256 0 ≡ padded []
@@ -151,10 +148,18 @@ ordered_more order xs true g e l =
 pub padded_back : (xs : List ℕ) → length xs ≤ 256 → listed (λ i. get_or (padded xs) i 0) (length xs) ≡ xs
 padded_back xs l = sym (is_listed (λ i. get_or (padded xs) i 0) (length xs) 0 xs refl (λ i b. sym (listed_at (λ i. get_or xs i 0) 256 i 0 (omega arith))))
 
--- the order of the levels: it fits, and is read back from its array
-module _ (levels : List ℕ) (n d : ℕ) (few : n ≤ 256) (order : Order) (e : order ≡ as_order (order_of levels n d)) where
-  pub ordered_fits : (order.gates ≤ 256) × ((i : ℕ) → get_or order.list i 0 < 256)
-  ordered_fits = rw e (omega (arith, order_length levels n d), λ i. order_below levels n d i few)
+-- the order of the levels: its gates are nets, it fits its array, and is read back from there
+module _ (levels : List ℕ) (n d : ℕ) (few : n ≤ 256) where
+  pub order_short : length (order_of levels n d) ≤ 256
+  order_short = omega (arith, order_length levels n d)
 
-  pub ordered_back : listed (λ i. get_or order.list i 0) order.gates ≡ order_of levels n d
-  ordered_back = rw e (padded_back (order_of levels n d) (omega (arith, order_length levels n d)))
+  pub order_nets : (i : ℕ) → get_or (order_of levels n d) i 0 < 256
+  order_nets i = read_all (λ x. x < 256) (order_of levels n d) i 0 (λ g m. omega (arith, (out_order levels n d g m).1)) (omega arith)
+
+  module _ (order : Order) (e : order ≡ as_order (order_of levels n d)) where
+    pub ordered_fits : order.gates ≤ 256
+    ordered_fits = rw e order_short
+
+    pub ordered_front : take order.gates order.list ≡ order_of levels n d
+    ordered_front =
+        rw e (front_listed (padded (order_of levels n d)) (length (order_of levels n d)) (simp length_listed order_short) ∙ padded_back (order_of levels n d) order_short)

@@ -1,44 +1,64 @@
 -- The pins of a net, read one after another: tests on all of them, and what an array of the nets has for each. Assumes nothing.
-use mathlib.Core.Path.{◌≡◌, sym, ap, ◌∙◌, subst}
-use mathlib.Core.Bool.{Bool, true, ◌||◌, or-false}
+use mathlib.Core.Path.{◌≡◌, refl, sym, ap, ◌∙◌, subst}
+use mathlib.Core.Bool.{Bool, true, ◌&&◌, ◌||◌, or-false}
 use mathlib.Core.List.Memᴰ
 use mathlib.Core.List.{List, [], ◌∷◌, ◌++◌, map, map-append}
 use mathlib.Core.Logic.{◌⊎◌, inl, inr, ⊎_elim}
-use Prim.Native.Nat.{ℕ, ◌+◌, ◌*◌, ◌≤◌, ◌<◌}
-use native.Mathlib.Nat.{zero-add}
+use Prim.Native.Nat.{ℕ, zero, suc, ◌+◌, ◌*◌, ◌≤◌, ◌<◌}
 use native.Mathlib.Numerals.{add-one}
 use native.Mathlib.Omega.{arith}
 use native.Mathlib.Decide.{dec_lt}
+use Rattle.std.specs.List.{list_all, range_with_len}
 use lib.Dec.{ltb, eqb}
-use lib.ListN.{get_or}
+use lib.ListN.{length, get_or, take, drop}
+use Rattle.std.proofs.lemmas.List.{length-take, length-drop, length-take-le, get_or-take, get_or-drop, take_more}
 use borrow.Author.Tests.{ltb-true, eqb-true}
 use Rattle.lists.specs.Entries.{◌∈◌, some, every, from}
 use Rattle.lists.specs.Listed.{listed}
-use Rattle.lists.proofs.Bools.{or_either, and_make}
-use Rattle.lists.proofs.Tests.{some_append, every_append, every_at, map_on}
-use Rattle.lists.proofs.Joined.{from_more, in_from}
-use Rattle.lists.proofs.Listed.{listed_none, listed_more, listed_at, in_listed}
+use Rattle.lists.proofs.Bools.{or_either}
+use Rattle.lists.proofs.Tests.{some_append, every_at, map_on}
+use Rattle.lists.proofs.Joined.{in_from}
+use Rattle.lists.proofs.Listed.{listed_none, listed_at, in_listed, is_listed}
+use Rattle.lists.proofs.Order.{at_in}
 use Rattle.rule.specs.Net.{open_pin, at_pin}
 use Rattle.rule.proofs.Nets.{at_open, at_net, not_open}
 use Rattle.card_wiring.specs.Layout.{pins_at}
 use Rattle.card_wiring.specs.Inner.Wires.{Wires, Fitting, all_fit}
 use Rattle.card_wiring.specs.Wired.{pin_fits}
 
--- One more
+-- A list that is gone through: one entry more
 
-pub every_more : {A : Type 0} (test : A → Bool) (f : ℕ → A) (j : ℕ) → every test (listed f j) ≡ true → test (f j) ≡ true → every test (listed f (j + 1)) ≡ true
-every_more test f j h e = ap (every test) (listed_more f j) ∙ every_append test (listed f j) (f j ∷ []) ∙ and_make _ _ h (rw e)
+module _ {A B : Type 0} (f : A → B) (xs : List A) (i : ℕ) (d : A) (l : i < length xs) where
+  pub map_entry : map f (take (i + 1) xs) ≡ map f (take i xs) ++ (f (get_or xs i d) ∷ [])
+  map_entry = ap (map f) (take_more xs i d l) ∙ map-append f (take i xs) (get_or xs i d ∷ [])
 
-pub every_net_more : (test : ℕ → Bool) (g : ℕ) → every test (from 0 g) ≡ true → test g ≡ true → every test (from 0 (g + 1)) ≡ true
-every_net_more test g h e =
-    rw (add-one g) (ap (every test) (from_more 0 g) ∙ every_append test (from 0 g) ((0 + g) ∷ []) ∙ and_make _ _ h (rw (zero-add g, e)))
+  pub some_entry : (test : B → Bool) → some test (map f (take (i + 1) xs)) ≡ some test (map f (take i xs)) || test (f (get_or xs i d))
+  some_entry test =
+      ap (some test) map_entry ∙ some_append test (map f (take i xs)) (f (get_or xs i d) ∷ [])
+      ∙ ap (λ b. some test (map f (take i xs)) || b) (or-false (test (f (get_or xs i d))))
 
-pub map_more : {A B : Type 0} (g : A → B) (f : ℕ → A) (j : ℕ) → map g (listed f (j + 1)) ≡ map g (listed f j) ++ (g (f j) ∷ [])
-map_more g f j = ap (map g) (listed_more f j) ∙ map-append g (listed f j) (f j ∷ [])
+-- its first entries, as a list by place
+pub front_listed : (xs : List ℕ) (i : ℕ) → i ≤ length xs → take i xs ≡ listed (λ k. get_or xs k 0) i
+front_listed xs i l = is_listed (λ k. get_or xs k 0) i 0 (take i xs) (length-take-le i xs l) (λ k b. get_or-take i xs k 0 b)
 
-pub some_more : {A B : Type 0} (test : B → Bool) (g : A → B) (f : ℕ → A) (j : ℕ) → some test (map g (listed f (j + 1))) ≡ some test (map g (listed f j)) || test (g (f j))
-some_more test g f j =
-    ap (some test) (map_more g f j) ∙ some_append test (map g (listed f j)) (g (f j) ∷ []) ∙ ap (λ b. some test (map g (listed f j)) || b) (or-false (test (g (f j))))
+-- The library's word for a test on every entry, and for a range of numbers
+
+pub all_every : {A : Type 0} (test : A → Bool) (xs : List A) → list_all test xs ≡ every test xs
+all_every test [] = refl
+all_every test (x ∷ xs) = ap (λ b. test x && b) (all_every test xs)
+
+range_from : (a k : ℕ) → range_with_len a k ≡ from a k
+range_from a zero = refl
+range_from a (suc k) = rw (add-one a, range_from (suc a) k)
+
+pub all_from : (test : ℕ → Bool) (a k : ℕ) → list_all test (range_with_len a k) ≡ every test (from a k)
+all_from test a k = all_every test (range_with_len a k) ∙ ap (every test) (range_from a k)
+
+-- what stands in a list from a place on
+pub part_listed : (xs : List ℕ) (a n k : ℕ) → n ≡ k → a + k ≤ length xs → take n (drop a xs) ≡ listed (λ j. get_or xs (a + j) 0) k
+part_listed xs a n k e l =
+    is_listed (λ j. get_or xs (a + j) 0) k 0 (take n (drop a xs)) (simp (length-take, length-drop) (omega arith))
+    (λ i b. get_or-take n (drop a xs) i 0 (omega arith) ∙ get_or-drop a xs i 0)
 
 -- Pins that fit
 
@@ -69,6 +89,13 @@ pub first_fitting : (counts places : List ℕ) (n g : ℕ) → Wires counts plac
 first_fitting counts places n g w named l =
     let first : g * 8 + 0 ≡ g * 8 = omega arith in
     subst (λ k. (get_or places k 0 < 256) ⊎ (get_or places k 0 ≡ open_pin)) first (pin_fitting counts places n g 0 w named l)
+
+-- and pin i of those that a net has
+pub pin_entry : (counts places : List ℕ) (n g : ℕ) → Wires counts places n → all_fit counts places n ≡ true → (ps : List ℕ) → ps ≡ pins_at counts places g
+    → (i : ℕ) → i < length ps → (get_or ps i 0 < 256) ⊎ (get_or ps i 0 ≡ open_pin)
+pin_entry counts places n g w e ps q i l =
+    let few = w.few in
+    ⊎_elim (λ h. inl (omega arith)) inr (fitting counts places n w e g (get_or ps i 0) (subst (λ xs. get_or ps i 0 ∈ xs) q (at_in ps i 0 l)))
 
 -- An array has for its pins what f has, where it has f for the nets and `loose` is f of the open pin
 pub pins_read : (f : ℕ → ℕ) (loose n : ℕ) (ps : List ℕ) → n ≤ 256 → ((p : ℕ) → p ∈ ps → (p < n) ⊎ (p ≡ open_pin)) → f open_pin ≡ loose

@@ -1,24 +1,27 @@
 -- Gates counted backwards over arrays: the highest of one more, a sweep, and that a sweep that changes nothing is the last. Assumes nothing.
-use mathlib.Core.Path.{◌≡◌, sym, ap, ◌∙◌}
+use mathlib.Core.Path.{◌≡◌, refl, sym, ap, ◌∙◌}
+use mathlib.Core.Bool.{true}
 use mathlib.Core.List.{List, [], ◌∷◌, ◌++◌, map, map-append}
-use Prim.Native.Nat.{ℕ, suc, ◌+◌, ◌-◌, ◌≤◌, ◌<◌, max}
+use Prim.Native.Nat.{ℕ, zero, suc, ◌+◌, ◌-◌, ◌≤◌, ◌<◌, max}
 use native.Mathlib.Nat.{zero-add}
 use native.Mathlib.Numerals.{add-one}
 use native.Mathlib.Omega.{arith}
 use native.Mathlib.Decide.{dec_lt}
-use lib.ListN.{length, get_or, replicate}
+use lib.ListN.{length, get_or, take, replicate}
+use Rattle.std.specs.Prelude.{fold}
+use Rattle.std.proofs.lemmas.List.{take_more}
 use borrow.Author.Tests.{lt-ltb, le-ltb}
 use Rattle.lists.specs.Entries.{from}
 use Rattle.lists.specs.Listed.{listed, upto}
 use Rattle.lists.proofs.Joined.{from_more}
-use Rattle.lists.proofs.Listed.{length_listed, map_listed, listed_at, listed_ext, listed_all, listed_same}
+use Rattle.lists.proofs.Listed.{listed_at, listed_ext, listed_all, listed_same}
 use Rattle.rule.specs.Net.{open_pin, at_pin}
 use Rattle.rule.specs.Level.{most, over, longest}
-use Rattle.rule.proofs.Levels.{most_le, back_le, longest_start, longest_more, longest_none, longest_stays}
-use Rattle.rule.proofs.Nets.{at_pin_all, open_is}
+use Rattle.rule.proofs.Levels.{back_le, longest_start, longest_more, longest_none, longest_stays}
+use Rattle.rule.proofs.Nets.{open_is}
 use Rattle.card_wiring.specs.Layout.{pins_at}
-use Rattle.card_wiring.specs.Inner.Wires.{Wires, Fitting, backs, highest}
-use Rattle.card_wiring.proofs.Pins.{map_more, pins_read, no_pins}
+use Rattle.card_wiring.specs.Inner.Wires.{Wires, all_fit, backs, highest}
+use Rattle.card_wiring.proofs.Pins.{map_entry, fitting, pins_read, no_pins}
 
 -- The highest of one more
 
@@ -26,8 +29,18 @@ most_end : (xs : List ℕ) (x : ℕ) → most (xs ++ (x ∷ [])) ≡ max (most x
 most_end [] x = omega arith
 most_end (y ∷ xs) x = let h = most_end xs x in omega arith
 
-pub most_more : (f h : ℕ → ℕ) (j : ℕ) → most (map f (listed h (j + 1))) ≡ max (most (map f (listed h j))) (f (h j))
-most_more f h j = ap most (map_more f h j) ∙ most_end (map f (listed h j)) (f (h j))
+over_end : (xs : List ℕ) (x : ℕ) → over 1 (xs ++ (x ∷ [])) ≡ max (over 1 xs) (x + 1)
+over_end [] x = omega arith
+over_end (y ∷ xs) x = let h = most_end xs x in omega arith
+
+-- one entry more of a list that is gone through
+pub over_entry : (f : ℕ → ℕ) (xs : List ℕ) (i : ℕ) → i < length xs → over 1 (map f (take (i + 1) xs)) ≡ max (over 1 (map f (take i xs))) (f (get_or xs i 0) + 1)
+over_entry f xs i l = ap (over 1) (map_entry f xs i 0 l) ∙ over_end (map f (take i xs)) (f (get_or xs i 0))
+
+-- the highest, as the library goes through a list
+pub most_fold : (xs : List ℕ) (a : ℕ) → fold max a xs ≡ max a (most xs)
+most_fold [] a = omega arith
+most_fold (x ∷ xs) a = let h = most_fold xs (max a x) in omega arith
 
 pub highest_more : (levels : List ℕ) (g : ℕ) → highest levels (g + 1) ≡ max (highest levels g) (get_or levels g 0)
 highest_more levels g =
@@ -37,16 +50,16 @@ highest_more levels g =
     ∙ most_end (map (λ m. get_or levels m 0) (from 0 g)) (get_or levels (0 + g) 0)
     ∙ rw (zero-add g))
 
--- what is read for the pins is at most what any net has
-pub most_read : (levels : List ℕ) (k : ℕ) (ps : List ℕ) → ((i : ℕ) → get_or levels i 0 ≤ k) → most (map (at_pin 0 (λ m. get_or levels m 0)) ps) ≤ k
-most_read levels k ps h = most_le (at_pin 0 (λ m. get_or levels m 0)) ps k (λ p m. at_pin_all (λ q x. x ≤ k) 0 (λ m. get_or levels m 0) p (omega arith) (h p))
+-- the first of a list, and the highest of them
+highest_front : (levels : List ℕ) (n : ℕ) → n ≤ length levels → most (take n levels) ≡ highest levels n
+highest_front levels zero l = refl
+highest_front levels (suc n) l =
+    let more : most (take (suc n) levels) ≡ most (take n levels ++ (get_or levels n 0 ∷ [])) = rw (← add-one n) (ap most (take_more levels n 0 (omega arith))) in
+    let high : highest levels (suc n) ≡ max (highest levels n) (get_or levels n 0) = rw (add-one n) at (highest_more levels n) in
+    more ∙ most_end (take n levels) (get_or levels n 0) ∙ omega (arith, highest_front levels n (omega arith))
 
-over_any : (w : ℕ) (xs : List ℕ) → 0 < length xs → over w xs ≡ most xs + w
-over_any w [] l = absurd (omega arith)
-over_any w (x ∷ xs) l = omega arith
-
-pub over_some : (w : ℕ) (f h : ℕ → ℕ) (k : ℕ) → 0 < k → over w (map f (listed h k)) ≡ most (map f (listed h k)) + w
-over_some w f h k l = over_any w (map f (listed h k)) (rw (map_listed f h k, length_listed _ k) l)
+pub highest_fold : (levels : List ℕ) (n : ℕ) → n ≤ length levels → fold max 0 (take n levels) ≡ highest levels n
+highest_fold levels n l = most_fold (take n levels) 0 ∙ omega (arith, highest_front levels n l)
 
 -- no more gates than may be followed
 pub backs_le : (counts places : List ℕ) (k i : ℕ) → get_or (backs (λ g. 1) counts places k) i 0 ≤ k
@@ -65,12 +78,12 @@ module _ (w : ℕ → ℕ) (counts places : List ℕ) (n : ℕ) (wires : Wires c
   past_none k g l = longest_none (pins_at counts places) w k g (no_pins counts places n g wires l)
 
   -- one net more is swept; all of them
-  pub swept : (k g : ℕ) (old : List ℕ) → Fitting counts places n → old ≡ backs w counts places k
+  pub swept : (k g : ℕ) (old : List ℕ) → all_fit counts places n ≡ true → old ≡ backs w counts places k
       → over (w g) (map (at_pin 0 (λ m. get_or old m 0)) (pins_at counts places g)) ≡ back (k + 1) g
-  swept k g old fitting e =
+  swept k g old fits e =
       let few = wires.few in
       rw (add-one k, longest_more (pins_at counts places) w k g, e)
-      (ap (over (w g)) (pins_read (back k) 0 n (pins_at counts places g) few (fitting g) (past_none k open_pin (omega (arith, open_is)))))
+      (ap (over (w g)) (pins_read (back k) 0 n (pins_at counts places g) few (fitting counts places n wires fits g) (past_none k open_pin (omega (arith, open_is)))))
 
   pub all_swept : (k : ℕ) → listed (upto (back k) (λ g. 0) n) 256 ≡ backs w counts places k
   all_swept k = listed_ext (upto (back k) (λ g. 0) n) (back k) 256 (λ g b. go g (dec_lt g n))

@@ -1,7 +1,7 @@
 // The wiring of a card that is laid out in arrays: counts says how many pins each net has, places what they name, 8 places a net.
 #![tactic(auto)]
 
-ghost use Rattle.std.specs.Prelude.{◌≡◌, true, false, map, ◌⊎◌, ℕ, ◌+◌, ◌-◌, ◌*◌, ◌<◌, ◌≤◌, max, eqb, length, get_or};
+ghost use Rattle.std.specs.Prelude.{◌≡◌, IfSome, is_some, map, true, ◌⊎◌, ℕ, ◌+◌, ◌-◌, ◌*◌, ◌<◌, ◌≤◌, max, eqb, length, get_or, take};
 ghost use Rattle.lists.specs.Entries.{every};
 ghost use Rattle.lists.specs.Listed.{listed};
 ghost use Rattle.word.specs.Word.{val};
@@ -18,26 +18,34 @@ use word::PcSet;
 // The value of a pin that names no net.
 pub const OPEN: u16 = 65535;
 
+// For the crates above, until they write `usize::from`.
 pub fn wide(x: u8) -> usize
     ensures { result ≡ x }
 {
-    x as usize
+    usize::from(x)
 }
 
 pub fn wide16(x: u16) -> usize
     ensures { result ≡ x }
 {
-    x as usize
+    usize::from(x)
+}
+
+// What the pins of net g name.
+fn pins_of<'a>(counts: &'a [u8; 256], places: &'a [u16; 2048], g: usize) -> &'a [u16]
+    requires narrow { get_or counts.now g 0 ≤ 8 }
+    requires g_bound { g < 256 }
+    ensures { result.now ≡ pins_at counts.now places.now g }
+{
+    let first = g * 8;
+    &places[first..first + usize::from(counts[g])]
 }
 
 // Whether a pin names one of n nets or is open.
 fn pin_fits(p: u16, n: usize) -> bool
     ensures { result ≡ pin_fits n p }
 {
-    if wide16(p) < n {
-        return true;
-    }
-    p == OPEN
+    usize::from(p) < n || p == OPEN
 }
 
 // Whether every pin of net g fits.
@@ -46,15 +54,7 @@ fn net_fits<'a>(counts: &'a [u8; 256], places: &'a [u16; 2048], n: usize, g: usi
     requires g_bound { g < 256 }
     ensures { result ≡ every (pin_fits n) (pins_at counts.now places.now g) }
 {
-    let count = wide(counts[g]);
-    let mut j: usize = 0;
-    while j < count {
-        if !pin_fits(places[g * 8 + j], n) {
-            return false;
-        }
-        j += 1;
-    }
-    true
+    pins_of(counts, places, g).iter().all(|p| pin_fits(*p, n))
 }
 
 // Whether every pin fits.
@@ -62,115 +62,140 @@ pub fn all_fit<'a>(counts: &'a [u8; 256], places: &'a [u16; 2048], n: usize) -> 
     requires { Wires counts.now places.now n }
     ensures { result ≡ all_fit counts.now places.now n }
 {
-    let mut g: usize = 0;
-    while g < n {
-        if !net_fits(counts, places, n, g) {
-            return false;
+    (0..n).all(|g| net_fits(counts, places, n, g))
+}
+
+// The wiring of a card of so many nets, in which every pin names one of them or is open.
+#[derive(Clone, Copy)]
+pub struct Wiring<'a> {
+    pub counts: &'a [u8; 256],
+    pub places: &'a [u16; 2048],
+    pub nets: usize,
+
+    ghost wires: { Wires counts.now places.now nets },
+
+    ghost fits: { all_fit counts.now places.now nets ≡ true },
+}
+
+impl<'a> Wiring<'a> {
+    // The wiring that the arrays have, if every pin fits.
+    fn of(counts: &'a [u8; 256], places: &'a [u16; 2048], nets: usize) -> Option<Wiring<'a>>
+        requires { Wires counts.now places.now nets }
+        ensures some { is_some result ≡ all_fit counts.now places.now nets }
+        ensures same { IfSome result
+            (λ w. (w.counts.now ≡ counts.now) × (w.places.now ≡ places.now) × (w.nets ≡ nets)) }
+    {
+        if !all_fit(counts, places, nets) {
+            return None;
         }
-        g += 1;
+        Some(Wiring {
+            counts,
+            places,
+            nets,
+        })
     }
-    true
-}
 
-// What an array has for a pin: for an open one, which names no net, `loose`.
-pub fn at_pin(xs: &[u64; 256], p: u16, loose: u64) -> u64
-    requires { (p < 256) ⊎ (p ≡ open_pin) }
-    ensures { result ≡ at_pin loose (λ (m : ℕ). get_or xs.now m 0) p }
-{
-    if p == OPEN {
-        return loose;
+    // What the pins of net g name.
+    pub fn pins(self, g: usize) -> &'a [u16]
+        requires { g < 256 }
+        ensures { result.now ≡ pins_at self.entry.counts.now self.entry.places.now g }
+    {
+        pins_of(self.counts, self.places, g)
     }
-    xs[wide16(p)]
-}
 
-fn larger(a: u64, b: u64) -> u64
-    ensures { result ≡ max a b }
-{
-    if a < b { b } else { a }
-}
-
-// The gates counted backwards from net g, one more than from its pins; 0 where it has none.
-fn over_pins<'a>(
-    old: &[u64; 256],
-    counts: &'a [u8; 256],
-    places: &'a [u16; 2048],
-    n: usize,
-    g: usize,
-    k: u64,
-) -> u64
-    requires wires { Wires counts.now places.now n }
-    requires fitting { Fitting counts.now places.now n }
-    requires g_bound { (g < 256) × (k < 1000) × ((i : ℕ) → get_or old.now i 0 ≤ k) }
-    ensures { result ≡ over 1 (map (at_pin 0 (λ (m : ℕ). get_or old.now m 0)) (pins_at counts.now places.now g)) }
-{
-    let count = wide(counts[g]);
-    if count == 0 {
-        return 0;
-    }
-    let mut most: u64 = 0;
-    let mut j: usize = 0;
-    while j < count {
-        most = larger(most, at_pin(old, places[g * 8 + j], 0));
-        j += 1;
-    }
-    most + 1
-}
-
-// One gate more is followed back from every net.
-fn sweep<'a>(
-    old: &[u64; 256],
-    counts: &'a [u8; 256],
-    places: &'a [u16; 2048],
-    n: usize,
-    k: u64,
-) -> [u64; 256]
-    requires wires { Wires counts.now places.now n }
-    requires fitting { Fitting counts.now places.now n }
-    requires k_bound { (k < 1000) × (old.now ≡ backs (λ (h : ℕ). 1) counts.now places.now k) }
-    ensures { result ≡ backs (λ (h : ℕ). 1) counts.now places.now (k + 1) }
-{
-    let mut new = [0u64; 256];
-    let mut g: usize = 0;
-    while g < n {
-        new[g] = over_pins(old, counts, places, n, g, k);
-        g += 1;
-    }
-    new
-}
-
-// Whether two arrays are the same.
-fn same(a: &[u64; 256], b: &[u64; 256]) -> bool
-    requires { (length a.now ≡ 256) × (length b.now ≡ 256) }
-    ensures { (result ≡ true → a.now ≡ b.now) × (a.now ≡ b.now → result ≡ true) }
-{
-    let mut i: usize = 0;
-    while i < 256 {
-        if a[i] != b[i] {
-            return false;
+    // The gates counted backwards from net g, one more than from its pins; 0 where it has none.
+    fn over_pins(self, old: &[u64; 256], g: usize) -> u64
+        requires { (g < 256) × ((i : ℕ) → get_or old.now i 0 < 1000) }
+        ensures { result ≡ over 1 (map (at_pin 0 (λ (m : ℕ). get_or old.now m 0)) (pins_at self.entry.counts.now self.entry.places.now g)) }
+    {
+        let mut over: u64 = 0;
+        for p in self.pins(g) {
+            over = over.max(at_pin(old, *p, 0) + 1);
         }
-        i += 1;
+        over
     }
-    true
-}
 
-// The gates counted backwards from every net, followed until nothing changes, at most to one gate more than there are nets.
-pub fn gates_back<'a>(counts: &'a [u8; 256], places: &'a [u16; 2048], n: usize) -> [u64; 256]
-    requires wires { Wires counts.now places.now n }
-    requires fitting { Fitting counts.now places.now n }
-    ensures { result ≡ backs (λ (h : ℕ). 1) counts.now places.now (n + 1) }
-{
-    let mut levels = [0u64; 256];
-    let mut k: u64 = 0;
-    let last = n as u64;
-    while k <= last {
-        let next = sweep(&levels, counts, places, n, k);
-        if same(&levels, &next) {
-            return levels;
+    // One gate more is followed back from every net.
+    fn sweep(self, old: &[u64; 256]) -> [u64; 256]
+        requires { (i : ℕ) → get_or old.now i 0 < 1000 }
+        ensures { (k : ℕ) → old.now ≡ backs (λ (h : ℕ). 1) self.entry.counts.now self.entry.places.now k → result ≡ backs (λ (h : ℕ). 1) self.entry.counts.now self.entry.places.now (k + 1) }
+    {
+        let mut new = [0u64; 256];
+        for g in 0..self.nets {
+            new[g] = self.over_pins(old, g);
         }
-        levels = next;
-        k += 1;
+        new
     }
-    levels
+
+    // The gates counted backwards from every net, followed until nothing changes, at most to one gate more than there are nets.
+    pub fn gates_back(self) -> [u64; 256]
+        ensures { result ≡ backs (λ (h : ℕ). 1) self.entry.counts.now self.entry.places.now (self.entry.nets + 1) }
+    {
+        let mut levels = [0u64; 256];
+        for _ in 0..=self.nets {
+            let next = self.sweep(&levels);
+            if levels == next {
+                return levels;
+            }
+            levels = next;
+        }
+        levels
+    }
+
+    // The PC-set of gate g: the union of its pins' sets, each element raised by one.
+    fn set_of(self, sets: &[u64; 256], g: usize) -> u64
+        requires { g < 256 }
+        ensures { result ≡ joined g (map (at_pin 1 (λ (m : ℕ). get_or sets.now m 0)) (pins_at self.entry.counts.now self.entry.places.now g)) }
+    {
+        let mut all = PcSet { word: 0 };
+        for p in self.pins(g) {
+            all = all.union(PcSet {
+                word: at_pin(sets, *p, 1),
+            });
+        }
+        all.raise().word
+    }
+
+    // The cleared sets, with {0} put in for inputs and constants, the nets without pins.
+    fn source_sets(self) -> [u64; 256]
+        ensures { result ≡ listed (source_set self.entry.counts.now self.entry.nets) 256 }
+    {
+        let mut sets = [0u64; 256];
+        for g in 0..self.nets {
+            sets[g] = u64::from(self.counts[g] == 0);
+        }
+        sets
+    }
+
+    // The PC-sets of all nets: those of inputs and constants, and the gates' along their order.
+    pub fn pcsets(self, order: &[u16]) -> [u64; 256]
+        requires { (i : ℕ) → get_or order.now i 0 < 256 }
+        ensures { result ≡ sets_along self.entry.counts.now self.entry.places.now self.entry.nets order.now }
+    {
+        let mut sets = self.source_sets();
+        for g in order {
+            let g = usize::from(*g);
+            sets[g] = self.set_of(&sets, g);
+        }
+        sets
+    }
+
+    // The gates' order and the PC-sets of a card whose levels are known, or 7.
+    fn with_sets(self, levels: &[u64; 256], depth: u64) -> Result<Wired, Refusal>
+        requires { depth < 1000 }
+        ensures { result ≡ set_wired self.entry.counts.now self.entry.places.now self.entry.nets (order_of levels.now self.entry.nets depth) }
+    {
+        let order = by_level(levels, self.nets, depth);
+        let sets = self.pcsets(order.as_slice());
+        if 4096 < sizes_of(&sets, order.as_slice()) {
+            return Err(Refusal::TooManySteps);
+        }
+        Ok(Wired {
+            gates: order.gates,
+            order: order.list,
+            sets,
+        })
+    }
 }
 
 // The highest of the first n.
@@ -178,48 +203,32 @@ pub fn highest_of(levels: &[u64; 256], n: usize) -> u64
     requires { n ≤ 256 }
     ensures { result ≡ highest levels.now n }
 {
-    let mut top: u64 = 0;
-    let mut g: usize = 0;
-    while g < n {
-        top = larger(top, levels[g]);
-        g += 1;
-    }
-    top
+    levels[..n].iter().fold(0, |top, level| top.max(*level))
 }
 
+// Some gates in order, in an array that every card's fit.
 #[derive(Clone, Copy)]
 pub struct Order {
     pub gates: usize,
     pub list: [u16; 256],
 }
 
-// The order with net g at its end, if g has level l.
-fn with_net(order: Order, level: u64, l: u64, g: usize) -> Order
-    requires { (g < 256) × (level ≡ l → order.gates < 256) }
-    ensures { result ≡ with_gate order (eqb level l) g }
-{
-    if level != l {
-        return order;
+impl Order {
+    fn as_slice(&self) -> &[u16]
+        requires { self.now.gates ≤ 256 }
+        ensures { result.now ≡ take self.now.gates self.now.list }
+    {
+        &self.list[..self.gates]
     }
-    let mut next = order;
-    let at = next.gates;
-    next.list[at] = g as u16;
-    next.gates = at + 1;
-    next
-}
 
-// The order with the nets of level l at its end, by number.
-fn with_level(order: Order, levels: &[u64; 256], n: usize, l: u64) -> Order
-    requires { (n ≤ 256) × (0 < l) × (order ≡ as_order (order_of levels.now n (l - 1))) }
-    ensures { result ≡ as_order (order_of levels.now n l) }
-{
-    let mut next = order;
-    let mut g: usize = 0;
-    while g < n {
-        next = with_net(next, levels[g], l, g);
-        g += 1;
+    // Net g at the end.
+    fn push(&mut self, g: usize)
+        requires { (g < 256) × (self.old.gates < 256) }
+        ensures { self.new ≡ with_gate self.old true g }
+    {
+        self.list[self.gates] = g as u16;
+        self.gates += 1;
     }
-    next
 }
 
 // The nets by level, 1 to depth, then number.
@@ -231,103 +240,50 @@ pub fn by_level(levels: &[u64; 256], n: usize, depth: u64) -> Order
         gates: 0,
         list: [0; 256],
     };
-    let mut l: u64 = 1;
-    while l <= depth {
-        order = with_level(order, levels, n, l);
-        l += 1;
+    for l in 1..=depth {
+        with_level(&mut order, levels, n, l);
     }
     order
 }
 
-// The PC-set of gate g: the union of its pins' sets, each element raised by one.
-fn set_of<'a>(
-    sets: &[u64; 256],
-    counts: &'a [u8; 256],
-    places: &'a [u16; 2048],
-    n: usize,
-    g: usize,
-) -> u64
-    requires wires { Wires counts.now places.now n }
-    requires fitting { Fitting counts.now places.now n }
-    requires g_bound { g < 256 }
-    ensures { result ≡ joined g (map (at_pin 1 (λ (m : ℕ). get_or sets.now m 0)) (pins_at counts.now places.now g)) }
+// The nets of level l at the end of an order, by number.
+fn with_level(order: &mut Order, levels: &[u64; 256], n: usize, l: u64)
+    requires { (n ≤ 256) × (0 < l) × (order.old ≡ as_order (order_of levels.now n (l - 1))) }
+    ensures { order.new ≡ as_order (order_of levels.now n l) }
 {
-    let count = wide(counts[g]);
-    let mut all = PcSet { word: 0 };
-    let mut j: usize = 0;
-    while j < count {
-        let s = PcSet {
-            word: at_pin(sets, places[g * 8 + j], 1),
-        };
-        all = all.union(s);
-        j += 1;
+    for g in 0..n {
+        if levels[g] == l {
+            order.push(g);
+        }
     }
-    let raised = all.raise();
-    raised.word
-}
-
-// The PC-set of a net with so many pins, ahead of the gates: {0} for an input or a constant, which has none.
-fn source_set(pins: u8) -> u64
-    ensures { result ≡ val (eqb pins 0) }
-{
-    if pins == 0 { 1 } else { 0 }
-}
-
-// The cleared sets, with {0} put in for inputs and constants.
-fn source_sets(counts: &[u8; 256], n: usize) -> [u64; 256]
-    requires { n ≤ 256 }
-    ensures { result ≡ listed (source_set counts.now n) 256 }
-{
-    let mut sets = [0u64; 256];
-    let mut g: usize = 0;
-    while g < n {
-        sets[g] = source_set(counts[g]);
-        g += 1;
-    }
-    sets
-}
-
-// The PC-sets of all nets: those of inputs and constants, and the gates' along their order.
-pub fn pcsets<'a>(
-    counts: &'a [u8; 256],
-    places: &'a [u16; 2048],
-    n: usize,
-    order: &'a [u16; 256],
-    gates: usize,
-) -> [u64; 256]
-    requires wires { Wires counts.now places.now n }
-    requires fitting { Fitting counts.now places.now n }
-    requires gates_bound { (gates ≤ 256) × ((i : ℕ) → get_or order.now i 0 < 256) }
-    ensures { result ≡ sets_along counts.now places.now n (listed (λ (i : ℕ). get_or order.now i 0) gates) }
-{
-    let mut sets = source_sets(counts, n);
-    let mut i: usize = 0;
-    while i < gates {
-        let g = wide16(order[i]);
-        sets[g] = set_of(&sets, counts, places, n, g);
-        i += 1;
-    }
-    sets
 }
 
 // The number of steps: the sizes of the gates' sets, added.
-pub fn sizes_of<'a>(sets: &'a [u64; 256], order: &'a [u16; 256], gates: usize) -> usize
-    requires { (gates ≤ 256) × ((i : ℕ) → get_or order.now i 0 < 256) }
-    ensures { result ≡ sizes_of sets.now (listed (λ (i : ℕ). get_or order.now i 0) gates) }
+pub fn sizes_of(sets: &[u64; 256], order: &[u16]) -> usize
+    requires { (length order.now ≤ 256) × ((i : ℕ) → get_or order.now i 0 < 256) }
+    ensures { result ≡ sizes_of sets.now order.now }
 {
     let mut sum: usize = 0;
-    let mut i: usize = 0;
-    while i < gates {
-        let s = PcSet {
-            word: sets[wide16(order[i])],
+    for g in order {
+        let set = PcSet {
+            word: sets[usize::from(*g)],
         };
-        sum += s.size() as usize;
-        i += 1;
+        sum += set.size() as usize;
     }
     sum
 }
 
-// What the wiring of a card gives: the gates in their order, and the PC-sets.
+// What an array has for a pin: for an open one, which names no net, `loose`.
+pub fn at_pin(xs: &[u64; 256], p: u16, loose: u64) -> u64
+    requires { (p < 256) ⊎ (p ≡ open_pin) }
+    ensures { result ≡ at_pin loose (λ (m : ℕ). get_or xs.now m 0) p }
+{
+    if p == OPEN {
+        return loose;
+    }
+    xs[usize::from(p)]
+}
+
 #[derive(Clone, Copy)]
 pub struct Wired {
     pub gates: usize,
@@ -335,39 +291,14 @@ pub struct Wired {
     pub sets: [u64; 256],
 }
 
-// The gates' order and the PC-sets of a card whose levels are known, or 7.
-fn with_sets<'a>(
-    counts: &'a [u8; 256],
-    places: &'a [u16; 2048],
-    n: usize,
-    levels: &'a [u64; 256],
-    depth: u64,
-) -> Result<Wired, Refusal>
-    requires wires { Wires counts.now places.now n }
-    requires fitting { Fitting counts.now places.now n }
-    requires depth_bound { depth < 1000 }
-    ensures { result ≡ set_wired counts.now places.now n (order_of levels.now n depth) }
-{
-    let by = by_level(levels, n, depth);
-    let gates = by.gates;
-    let order = by.list;
-    let sets = pcsets(counts, places, n, &order, gates);
-    if 4096 < sizes_of(&sets, &order, gates) {
-        return Err(Refusal::TooManySteps);
-    }
-    Ok(Wired { gates, order, sets })
-}
-
 // The judgement of a card's wiring: 4, 5, 6, 7; then the order of its gates and their PC-sets.
 pub fn wire<'a>(counts: &'a [u8; 256], places: &'a [u16; 2048], n: usize) -> Result<Wired, Refusal>
     requires { Wires counts.now places.now n }
     ensures { result ≡ arrays_wired counts.now places.now n }
 {
-    if !all_fit(counts, places, n) {
-        return Err(Refusal::NoSuchPin);
-    }
+    let wiring = Wiring::of(counts, places, n).ok_or(Refusal::NoSuchPin)?;
     // Every delay is one unit, so the gates counted backwards are the levels too.
-    let levels = gates_back(counts, places, n);
+    let levels = wiring.gates_back();
     let depth = highest_of(&levels, n);
     if (n as u64) < depth {
         return Err(Refusal::Looped);
@@ -375,5 +306,5 @@ pub fn wire<'a>(counts: &'a [u8; 256], places: &'a [u16; 2048], n: usize) -> Res
     if 63 < depth {
         return Err(Refusal::TooDeep);
     }
-    with_sets(counts, places, n, &levels, depth)
+    wiring.with_sets(&levels, depth)
 }

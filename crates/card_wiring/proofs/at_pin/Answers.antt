@@ -11,12 +11,12 @@ use Rattle.card_wiring.proofs.at_pin.Goals as goal
 pub returns-then-p-eq-OPEN : goal.returns-then-p-eq-OPEN
 returns-then-p-eq-OPEN c = let e : c.args.p ≡ open_pin = c.if-p-eq-OPEN.true ∙ sym open_is in rw e (sym (at_open c.args.loose _))
 
-pub bounds-xs-wide16 : goal.bounds-xs-wide16
-bounds-xs-wide16 c =
-    let e = c.wide16.ensures in
+pub bounds-xs-from : goal.bounds-xs-from
+bounds-xs-from c =
+    let e = c.from.ensures in
     ⊎_elim (λ l. omega arith) (λ q. absurd (c.if-p-eq-OPEN.false (q ∙ open_is))) c.requires
 
 pub returns : goal.returns
 returns c =
-    ap (λ (m : ℕ). get_or c.args.xs.now m 0) c.wide16.ensures
+    ap (λ (m : ℕ). get_or c.args.xs.now m 0) c.from.ensures
     ∙ sym (at_net c.args.loose (λ m. get_or c.args.xs.now m 0) c.args.p (λ q. c.if-p-eq-OPEN.false (q ∙ open_is)))

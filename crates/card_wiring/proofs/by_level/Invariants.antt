@@ -5,7 +5,4 @@ use Rattle.card_wiring.specs.Inner.Wired.{as_order}
 use Rattle.card_wiring.proofs.by_level.Given as goal
 
 abbrev pub invariant-loop-l : goal.invariant-loop-l
-invariant-loop-l l = (l.order ≡ as_order (order_of l.levels l.n (l.l - 1))) × (1 ≤ l.l) × (l.l ≤ l.depth + 1)
-
-abbrev pub decreases-loop-l : goal.decreases-loop-l
-decreases-loop-l l = l.depth + 1 - l.l
+invariant-loop-l l = (l.l ≤ l.depth + 1) × (l.order ≡ as_order (order_of l.levels l.n (l.l - 1)))

@@ -1,20 +1,14 @@
--- `card_wiring::highest_of` meets its contract. The loop's invariant: `top` is the highest of the first g. The measure is what is left of n.
--- Assumes nothing.
-use mathlib.Core.Path.{◌≡◌, refl}
-use native.Mathlib.Omega.{arith}
-use Rattle.card_wiring.proofs.Sweeps.{highest_more}
+-- The highest of the first n, as the library goes through a list: `highest_fold`. Assumes nothing.
+use mathlib.Core.Path.{◌≡◌, ◌∙◌}
+use Prim.Native.Nat.{max}
+use lib.ListN.{take}
+use Rattle.std.proofs.Common.{rules}
+use Rattle.std.proofs.iter.runs.Made.{chains}
+use Rattle.std.specs.Prelude.{fold}
+use Rattle.card_wiring.proofs.Sweeps.{highest_fold}
 use Rattle.card_wiring.proofs.highest_of.Goals as goal
-
-pub loop-g-init : goal.loop-g-init
-loop-g-init c = (omega arith, refl)
-
-pub loop-g-preserved : goal.loop-g-preserved
-loop-g-preserved c =
-    let l = c.loop-g in
-    let r = c.larger-top.ensures in
-    (omega arith, omega (arith, highest_more c.args.levels.now l.g))
 
 pub returns : goal.returns
 returns c =
-    let e : c.loop-g.g ≡ c.args.n = omega arith in
-    rw e at c.loop-g.invariant.1
+    let it : c.fold.result ≡ fold max 0 (take c.args.n c.args.levels.now) = search (rules, chains) in
+    it ∙ highest_fold c.args.levels.now c.args.n (search rules)
