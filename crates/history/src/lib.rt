@@ -12,13 +12,6 @@ use card::Session;
 use rule::{Answer, Refusal};
 use word::PcSet;
 
-// One more to a count, or none.
-fn one_if(b: bool) -> u32
-    ensures { result ≡ val b }
-{
-    if b { 1 } else { 0 }
-}
-
 // The number of changes from the before value through time 63, by walking the times.
 pub fn changes_of(word: u64, before: bool) -> u32
     ensures { result ≡ changes before (bit word) }
@@ -26,12 +19,10 @@ pub fn changes_of(word: u64, before: bool) -> u32
     let w = PcSet { word };
     let mut last = before;
     let mut count: u32 = 0;
-    let mut t: u32 = 0;
-    while t < 64 {
+    for t in 0..64 {
         let value = w.has(t);
-        count += one_if(value ^ last);
+        count += u32::from(value ^ last);
         last = value;
-        t += 1;
     }
     count
 }
@@ -51,23 +42,12 @@ pub fn flag_of(word: u64, before: bool) -> u8
     if before == w.has(63) { 2 } else { 3 }
 }
 
-// A value as the byte 0 or 1.
-fn byte_of(b: bool) -> u8
-    ensures { result ≡ val b }
-{
-    if b { 1 } else { 0 }
-}
-
 // The words of the first n nets, at the front of lent room.
 fn put_words(words: &[u64; 256], n: usize, room: &mut [u64])
     requires { (n ≤ 256) × (n ≤ length room.old) }
     ensures { room.new ≡ filled (λ (i : ℕ). get_or words.now i 0) n room.old }
 {
-    let mut i: usize = 0;
-    while i < n {
-        room[i] = words[i];
-        i += 1;
-    }
+    room[..n].copy_from_slice(&words[..n]);
 }
 
 // Their before values.
@@ -75,10 +55,8 @@ fn put_befores(before: &[bool; 256], n: usize, room: &mut [u8])
     requires { (n ≤ 256) × (n ≤ length room.old) }
     ensures { room.new ≡ filled (λ (i : ℕ). val (get_or before.now i false)) n room.old }
 {
-    let mut i: usize = 0;
-    while i < n {
-        room[i] = byte_of(before[i]);
-        i += 1;
+    for i in 0..n {
+        room[i] = u8::from(before[i]);
     }
 }
 
@@ -88,10 +66,8 @@ fn put_flags<'a>(words: &'a [u64; 256], before: &'a [bool; 256], n: usize, room:
     ensures { room.new
         ≡ filled (λ (i : ℕ). flag_of (get_or before.now i false) (bit (get_or words.now i 0))) n room.old }
 {
-    let mut i: usize = 0;
-    while i < n {
+    for i in 0..n {
         room[i] = flag_of(words[i], before[i]);
-        i += 1;
     }
 }
 
