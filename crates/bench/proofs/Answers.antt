@@ -37,7 +37,7 @@ pub held_named : {ks : List Step} {nets₀ times₀ nets times : List ℕ} {n : 
 held_named h ln lt few = record { net_is = held_net h ln lt few; time_is = held_time h ln lt few }
 
 -- a verdict that passes
-passed_tests : (a b r : Bool) → cond a (cond b (cond r (Ok tt) (Err OrderEarly)) (Err OrderEntry)) (Err OrderLength) ≡ (Ok tt) → (a ≡ true) × (b ≡ true)
+passed_tests : (a b r : Bool) → ◌≡◌ {A = Verdict} (cond a (cond b (cond r (Ok tt) (Err OrderEarly)) (Err OrderEntry)) (Err OrderLength)) (Ok tt) → (a ≡ true) × (b ≡ true)
 passed_tests true true r e = (refl, refl)
 passed_tests true false r e = let z : ◌≡◌ {A = ℕ} 0 1 = cc in absurd (omega arith)
 passed_tests false b r e = let z : ◌≡◌ {A = ℕ} 0 1 = cc in absurd (omega arith)

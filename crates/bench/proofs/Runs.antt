@@ -17,7 +17,7 @@ use Rattle.lists.proofs.Rooms.{fills_same}
 use Rattle.word.specs.Word.{bit, val}
 use Rattle.rule.specs.Net.{Net}
 use Rattle.rule.specs.Steps.{IsStep, step_list, no_step, step_at}
-use Rattle.std.specs.Prelude.{Ok, Err}
+use Rattle.std.specs.Prelude.{Ok}
 use Rattle.rule.proofs.Runs.{take_in}
 use Rattle.rule.proofs.StepLists.{list_only}
 use Rattle.card.specs.declared.Session.{Session}

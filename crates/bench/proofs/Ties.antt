@@ -28,6 +28,7 @@ use Rattle.rule.proofs.PinReads.{read_named, read_below, read_pin}
 use Rattle.rule.proofs.StepRuns.{ahead, read_there}
 use Rattle.rule.proofs.StepLists.{list_only}
 use Rattle.std.specs.Prelude.{Ok, Err}
+use Rattle.rule.specs.Answers.{Verdict}
 use Rattle.card.specs.declared.Session.{Session}
 use Rattle.card.specs.Session.{card_of}
 use Rattle.card.specs.Held.{HasCard}
@@ -155,12 +156,13 @@ module _ (s : Session) (h : HasCard s) where
   judged_is nets times order n = ap (λ v. cond (eqb (length order) (length (step_list c))) v (Err OrderLength)) (go (entries_fit (length (step_list c)) order) refl)
     where
       go : (b : Bool) → entries_fit (length (step_list c)) order ≡ b
-          → cond b (cond (ready_in s.counts s.places s.sets (replicate 256 1) (order_steps nets times order)) (Ok tt) (Err OrderEarly)) (Err OrderEntry)
-          ≡ cond b (cond (ready same_step (step_reads c) ahead (steps_of c order)) (Ok tt) (Err OrderEarly)) (Err OrderEntry)
+          → ◌≡◌ {A = Verdict}
+          (cond b (cond (ready_in s.counts s.places s.sets (replicate 256 1) (order_steps nets times order)) (Ok tt) (Err OrderEarly)) (Err OrderEntry))
+          (cond b (cond (ready same_step (step_reads c) ahead (steps_of c order)) (Ok tt) (Err OrderEarly)) (Err OrderEntry))
       go false e = refl
       go true e =
           let below = (entries_of (length (step_list c)) order e).0 in
-          ap (λ b. cond b (Ok tt) (Err OrderEarly))
+          ap {B = Verdict} (λ b. cond b (Ok tt) (Err OrderEarly))
           (ap (ready_in s.counts s.places s.sets (replicate 256 1)) (named_steps (step_list c) nets times n order below)
           ∙ ready_are (steps_of c order) (replicate 256 1) ahead (λ k m. let o = out_map (step_at (step_list c)) order k m in subst (IsStep c) (sym o.2) (list_only c _ (at_in (step_list c) o.0 no_step (below o.0 o.1))))
           (length-replicate {A = ℕ} 256 1) (agree_start (replicate 256 1) (λ n l. get_or-replicate {A = ℕ} 256 n 1 0 l)))

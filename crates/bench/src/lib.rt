@@ -14,9 +14,7 @@ ghost use Rattle.bench.specs.Inner.Taken.{Taken, byte_in};
 ghost use Rattle.bench.specs.Bench.{not_done, bench_done, bench_order, bench_of};
 
 use card::Session;
-use card_wiring::Verdict;
 use rule::{Answer, Refusal};
-use session::Moved;
 use word::PcSet;
 
 // Which step numbers are among the first k entries of an order.
@@ -66,9 +64,9 @@ fn put_bytes<'a>(
 }
 
 // The first entries of an order that was taken are done, one step after another, and each step's byte goes to lent room; the session moves
-// only when they are the whole list.
+// only when they are the whole list. The count of the steps done is handed back.
 fn do_first<'a>(
-    s: Session,
+    s: &mut Session,
     v: &[u8],
     nets: &'a [u16; 4096],
     times: &'a [u8; 4096],
@@ -76,13 +74,13 @@ fn do_first<'a>(
     order: &'a [u16],
     first: usize,
     room: &mut [u8],
-) -> Moved
-    requires good { Good s }
-    requires rested_value { (s.rested ≡ true) × (length v.now ≡ s.inputs) }
-    requires taken { Taken (card_of s) nets.now times.now total order.now }
+) -> usize
+    requires good { Good s.old }
+    requires rested_value { (s.old.rested ≡ true) × (length v.now ≡ s.old.inputs) }
+    requires taken { Taken (card_of s.old) nets.now times.now total order.now }
     requires first_le_total { (first ≤ total) × (total ≤ length room.old) }
-    ensures { record { moved = result; room = room.new }
-        ≡ bench_done s (given s.kinds v.now) order.now first room.old }
+    ensures { record { moved = record { answer = Ok result; session = s.new }; room = room.new }
+        ≡ bench_done s.old (given s.old.kinds v.now) order.now first room.old }
 {
     let before = inputs::tops(&s.words);
     let mut vars = step_vars::start(&before, &s.feeds, v);
@@ -92,54 +90,41 @@ fn do_first<'a>(
     let done = among(order, first);
     put_bytes(&vars, nets, times, &done, total, room);
     if first < total {
-        return Moved {
-            answer: Answer::Done(count),
-            session: s,
-        };
+        return count;
     }
     let words = step_vars::histories_from(&vars, &s.sets);
-    let next = session::with_words(s, s.rested, before, words);
-    Moved {
-        answer: Answer::Done(count),
-        session: next,
-    }
+    s.before = before;
+    s.words = words;
+    count
 }
 
 // A bench run with a vector that fits: 15, 16, 17, 19, 18; else the first k entries of the order are done.
-fn run_bench<'a>(s: Session, v: &[u8], order: &'a [u16], k: u64, room: &mut [u8]) -> Moved
-    requires good { Good s }
-    requires rested_value { (s.rested ≡ true) × (length v.now ≡ s.inputs) }
-    ensures { record { moved = result; room = room.new }
-        ≡ bench_order s (given s.kinds v.now) order.now k room.old (order_judged (card_of s) order.now) }
+fn run_bench<'a>(s: &mut Session, v: &[u8], order: &'a [u16], k: u64, room: &mut [u8]) -> Answer
+    requires good { Good s.old }
+    requires rested_value { (s.old.rested ≡ true) × (length v.now ≡ s.old.inputs) }
+    ensures { record { moved = record { answer = result; session = s.new }; room = room.new }
+        ≡ bench_order s.old (given s.old.kinds v.now) order.now k room.old (order_judged (card_of s.old) order.now) }
 {
     let mut nets = [0u16; 4096];
     let mut times = [0u8; 4096];
     let total = step_list::put_list(&mut nets, &mut times, &s.sets, &s.order, s.gates);
-    let verdict = step_orders::judge_order(
+    step_orders::judge_order(
         &s.counts, &s.places, &s.sets, s.nets, &nets, &times, total, order,
-    );
-    match verdict {
-        Verdict::Refused(why) => session::refused(s, why),
-        Verdict::Passed => {
-            if (total as u64) < k {
-                return session::refused(s, Refusal::TooManyAsked);
-            }
-            if room.len() < total {
-                return session::refused(s, Refusal::NoRoom);
-            }
-            do_first(s, v, &nets, &times, total, order, k as usize, room)
-        }
+    )?;
+    if (total as u64) < k {
+        return Err(Refusal::TooManyAsked);
     }
+    if room.len() < total {
+        return Err(Refusal::NoRoom);
+    }
+    Ok(do_first(s, v, &nets, &times, total, order, k as usize, room))
 }
 
 // A bench run: a vector, an order of step numbers, and how many of its entries to do; a byte for each step number goes to lent room.
-pub fn bench(s: Session, v: &[u8], order: &[u16], k: u64, room: &mut [u8]) -> Moved
-    requires { Good s }
-    ensures { record { moved = result; room = room.new } ≡ bench_of s v.now order.now k room.old }
+pub fn bench(s: &mut Session, v: &[u8], order: &[u16], k: u64, room: &mut [u8]) -> Answer
+    requires { Good s.old }
+    ensures { record { moved = record { answer = result; session = s.new }; room = room.new } ≡ bench_of s.old v.now order.now k room.old }
 {
-    let verdict = inputs::judge(s.rested, s.inputs, v);
-    match verdict {
-        Verdict::Refused(why) => session::refused(s, why),
-        Verdict::Passed => run_bench(s, v, order, k, room),
-    }
+    inputs::judge(s.rested, s.inputs, v)?;
+    run_bench(s, v, order, k, room)
 }

@@ -1,3 +1,4 @@
+pub mod Counted
 pub mod Tests
 pub mod Kept
 pub mod Reading

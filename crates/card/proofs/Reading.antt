@@ -23,7 +23,6 @@ use Rattle.card_wiring.specs.Inner.Wired.{arrays_wired}
 use Rattle.card_wiring.proofs.Judged.{arrays_judged_lem as wired-judged, wired_passed}
 use Rattle.card_wiring.proofs.Layouts.{kind_input, wires_laid, kind_at, kind_past}
 use Rattle.inputs.specs.Inputs.{input_nets}
-use Rattle.card_records.specs.declared.Outcome.TheVariants.{Refused as Unread, Read}
 use Rattle.card_records.specs.declared.Parsed.{Parsed}
 use Rattle.card_records.specs.Written.{Bytes}
 use Rattle.card_records.specs.Scan.{Meaning, Stops, Means, meaning}
@@ -39,18 +38,19 @@ use Rattle.card.specs.Inner.Arrays.{concluded_from, arrays_session, arrays_concl
 
 -- What reading came to
 
-pub stopped_by : (m : Meaning) (r : Refusal) → (parsed_of m).outcome ≡ Unread r → m ≡ Stops r
+pub stopped_by : (m : Meaning) (r : Refusal) → parsed_of m ≡ Err r → m ≡ Stops r
 stopped_by (Stops q) r e = let h : q ≡ r = cc in ap Stops h
 stopped_by (Means c) r e = let z : ◌≡◌ {A = ℕ} 0 1 = cc in absurd (omega arith)
 
-pub record Card (m : Meaning) (n : ℕ) : Type 0 where
+-- a card that bytes mean, and what it is laid out in
+pub record Card (m : Meaning) (p : Parsed) : Type 0 where
   pub nets : List Net
   pub means : m ≡ Means nets
-  pub size : length nets ≡ n
+  pub arrays : p ≡ record { nets = length nets; kinds = kinds_of nets; types = types_of nets; counts = counts_of nets; places = places_of nets }
 
-pub read_card : (m : Meaning) (n : ℕ) → (parsed_of m).outcome ≡ Read n → Card m n
-read_card (Stops q) n e = let z : ◌≡◌ {A = ℕ} 0 1 = cc in absurd (omega arith)
-read_card (Means c) n e = let h : length c ≡ n = cc in record { nets = c; means = refl; size = h }
+pub read_card : (m : Meaning) (p : Parsed) → parsed_of m ≡ Ok p → Card m p
+read_card (Stops q) p e = let z : ◌≡◌ {A = ℕ} 0 1 = cc in absurd (omega arith)
+read_card (Means c) p e = record { nets = c; means = refl; arrays = cc }
 
 -- The inputs of the arrays are the card's
 
@@ -142,37 +142,34 @@ judge_laid old {c} laid =
 
 -- Load, from what reading came to
 
-module _ (old : Session) (s : List ℕ) (p : Parsed) (parsed : p ≡ parsed_of (meaning s)) where
-  pub load_stopped : (r : Refusal) → p.outcome ≡ Unread r → refusal old r ≡ load_of old s
+module _ (old : Session) (s : List ℕ) (r : Result Parsed Refusal) (parsed : r ≡ parsed_of (meaning s)) where
+  pub load_stopped : (why : Refusal) → r ≡ Err why → refusal old why ≡ load_of old s
   unfolding load_of
-  load_stopped r e = sym (ap (load_meant old) (stopped_by (meaning s) r (ap (λ x. x.outcome) (sym parsed) ∙ e)))
+  load_stopped why e = sym (ap (load_meant old) (stopped_by (meaning s) why (sym parsed ∙ e)))
 
-  module _ (bytes : Bytes s) (n : ℕ) (e : p.outcome ≡ Read n) where
-    abbrev found : Card (meaning s) n
-    found = read_card (meaning s) n (ap (λ x. x.outcome) (sym parsed) ∙ e)
+  module _ (bytes : Bytes s) (p : Parsed) (e : r ≡ Ok p) where
+    abbrev found : Card (meaning s) p
+    found = read_card (meaning s) p (sym parsed ∙ e)
 
-    arrays : p ≡ parsed_of (Means found.nets)
-    arrays = parsed ∙ ap parsed_of found.means
-
-    load_laid : Laid found.nets n p.kinds p.types p.counts p.places
+    load_laid : Laid found.nets p.nets p.kinds p.types p.counts p.places
     load_laid =
         let f = read_fits s bytes found.nets found.means in
         record {
           fits = f.fits;
           pinned = f.pinned;
-          size = found.size;
-          kinds_laid = ap (λ x. x.kinds) arrays;
-          types_laid = ap (λ x. x.types) arrays;
-          counts_laid = ap (λ x. x.counts) arrays;
-          places_laid = ap (λ x. x.places) arrays;
+          size = sym (ap (λ x. x.nets) found.arrays);
+          kinds_laid = ap (λ x. x.kinds) found.arrays;
+          types_laid = ap (λ x. x.types) found.arrays;
+          counts_laid = ap (λ x. x.counts) found.arrays;
+          places_laid = ap (λ x. x.places) found.arrays;
         }
 
-    pub load_wires : Wires p.counts p.places n
+    pub load_wires : Wires p.counts p.places p.nets
     load_wires =
         let l = load_laid in
-        subst (λ x. Wires x p.places n) (sym l.counts_laid)
-        (subst (λ y. Wires (counts_of found.nets) y n) (sym l.places_laid) (subst (Wires (counts_of found.nets) (places_of found.nets)) l.size (wires_laid found.nets l.fits)))
+        subst (λ x. Wires x p.places p.nets) (sym l.counts_laid)
+        (subst (λ y. Wires (counts_of found.nets) y p.nets) (sym l.places_laid) (subst (Wires (counts_of found.nets) (places_of found.nets)) l.size (wires_laid found.nets l.fits)))
 
-    pub load_judged : arrays_judged old n p.kinds p.types p.counts p.places ≡ load_of old s
+    pub load_judged : arrays_judged old p.nets p.kinds p.types p.counts p.places ≡ load_of old s
     unfolding load_of
     load_judged = judge_laid old load_laid ∙ sym (ap (load_meant old) found.means)

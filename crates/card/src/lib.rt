@@ -2,7 +2,6 @@
 #![tactic(auto)]
 
 ghost use Rattle.std.specs.Prelude.{◌≡◌, ◌≤◌, eqb, get_or};
-ghost use Rattle.word.specs.Word.{val};
 ghost use Rattle.word.specs.Times.{count};
 ghost use Rattle.card_wiring.specs.Inner.Wires.{Wires};
 ghost use Rattle.card.specs.Session.{none};
@@ -11,7 +10,7 @@ ghost use Rattle.card.specs.Inner.Arrays.{arrays_concluded, arrays_judged};
 ghost use Rattle.card.specs.Held.{Carded};
 ghost use Rattle.card.specs.Asked.{net_asked, depth_asked, steps_asked};
 
-use card_records::Outcome;
+use card_records::Parsed;
 use rule::{Answer, NetAnswer, NetFacts, Refusal};
 
 // A card, laid out in arrays, its rest and the histories of the last vector. The operations borrow it, and leave it as it stood where they refuse.
@@ -62,43 +61,22 @@ pub fn empty() -> Session
     }
 }
 
-fn one_if_input(kind: u8) -> usize
-    ensures { result ≡ val (eqb kind 1) }
-{
-    if kind == 1 { 1 } else { 0 }
-}
-
 // How many of the first n nets are inputs.
 pub fn inputs_below(kinds: &[u8; 256], n: usize) -> usize
     requires { n ≤ 256 }
     ensures { result ≡ count (λ g. eqb (get_or kinds.now g 0) 1) n }
 {
-    let mut inputs: usize = 0;
-    let mut g: usize = 0;
-    while g < n {
-        inputs += one_if_input(kinds[g]);
-        g += 1;
-    }
-    inputs
+    kinds[..n].iter().filter(|kind| **kind == 1).count()
 }
 
-// A card laid out in arrays, that has so many inputs: what the wiring's judgement gives, 4, 5, 6, 7; else it replaces the old one, and a count
-// is handed back.
-fn conclude<'a>(
-    session: &mut Session,
-    count: usize,
-    inputs: usize,
-    n: usize,
-    kinds: &'a [u8; 256],
-    types: &'a [u8; 256],
-    counts: &'a [u8; 256],
-    places: &'a [u16; 2048],
-) -> Answer
-    requires { Wires counts.now places.now n }
+// A card that was read, with so many inputs: what the wiring's judgement gives, 4, 5, 6, 7; else it replaces the old one, and a count is handed
+// back.
+fn conclude(session: &mut Session, inputs: usize, card: &Parsed) -> Answer
+    requires { Wires card.now.counts card.now.places card.now.nets }
     ensures { record { answer = result; session = session.new }
-        ≡ arrays_concluded session.old count inputs n kinds.now types.now counts.now places.now }
+        ≡ arrays_concluded session.old card.now.nets inputs card.now.nets card.now.kinds card.now.types card.now.counts card.now.places }
 {
-    let wired = card_wiring::wire(counts, places, n)?;
+    let wired = card_wiring::wire(&card.counts, &card.places, card.nets)?;
     let order = wired.order;
     let sets = wired.sets;
     // "not yet rested"; "All 256 fields start cleared when a card is loaded"
@@ -106,52 +84,41 @@ fn conclude<'a>(
     *session = Session {
         loaded: true,
         rested,
-        nets: n,
+        nets: card.nets,
         inputs,
         gates: wired.gates,
-        kinds: *kinds,
-        types: *types,
-        counts: *counts,
-        places: *places,
+        kinds: card.kinds,
+        types: card.types,
+        counts: card.counts,
+        places: card.places,
         order,
-        feeds: inputs::input_nets(kinds),
+        feeds: inputs::input_nets(&card.kinds),
         sets,
         before: [false; 256],
         words,
     };
-    Ok(count)
+    Ok(card.nets)
 }
 
-// A card that was read, laid out in arrays: 9, then 4, 5, 6, 7; else it replaces the old one.
-fn judge<'a>(
-    session: &mut Session,
-    n: usize,
-    kinds: &'a [u8; 256],
-    types: &'a [u8; 256],
-    counts: &'a [u8; 256],
-    places: &'a [u16; 2048],
-) -> Answer
-    requires { Wires counts.now places.now n }
+// A card that was read: 9, then 4, 5, 6, 7; else it replaces the old one.
+fn judge(session: &mut Session, card: &Parsed) -> Answer
+    requires { Wires card.now.counts card.now.places card.now.nets }
     ensures { record { answer = result; session = session.new }
-        ≡ arrays_judged session.old n kinds.now types.now counts.now places.now }
+        ≡ arrays_judged session.old card.now.nets card.now.kinds card.now.types card.now.counts card.now.places }
 {
-    let inputs = inputs_below(kinds, n);
+    let inputs = inputs_below(&card.kinds, card.nets);
     if inputs == 0 {
         return Err(Refusal::NoInput);
     }
-    conclude(session, n, inputs, n, kinds, types, counts, places)
+    conclude(session, inputs, card)
 }
 
 // A card from any bytes: it replaces the old one, or is refused and leaves it.
 pub fn load(session: &mut Session, bytes: &[u8]) -> Answer
     ensures { record { answer = result; session = session.new } ≡ load_of session.old bytes.now }
 {
-    let p = card_records::parse(bytes);
-    let outcome = p.outcome;
-    match outcome {
-        Outcome::Refused(why) => Err(why),
-        Outcome::Read(n) => judge(session, n, &p.kinds, &p.types, &p.counts, &p.places),
-    }
+    let card = card_records::parse(bytes)?;
+    judge(session, &card)
 }
 
 // A net's level, worked out from the wiring at each asking, and its PC-set.

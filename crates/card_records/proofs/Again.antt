@@ -14,6 +14,7 @@ use Rattle.word.specs.Word.{is_one, val}
 use Rattle.word.proofs.Words.{val_lt, one_val}
 use Rattle.rule.specs.Net.{Net, input, constant, gate}
 use Rattle.card_wiring.specs.Layout.{kind_of}
+use Rattle.std.specs.Prelude.{Ok}
 use Rattle.card_records.specs.declared.NetRecord.{NetRecord}
 use Rattle.card_records.specs.declared.Record.TheVariants.{End, Net as Netted}
 use Rattle.card_records.specs.Bytes.{u16_at, body_fits, pin_count, net_record, record_read}
@@ -87,7 +88,7 @@ module _ (s : List ℕ) where
 
   -- read at a place as a net, with the rest after it
   abbrev pub Again : ℕ → Net → List ℕ → Type 0
-  Again at w rest = (r : NetRecord) × (record_read s at ≡ Netted r) × (net_meant s r ≡ w) × (drop r.next s ≡ rest)
+  Again at w rest = (r : NetRecord) × (record_read s at ≡ Ok (Netted r)) × (net_meant s r ≡ w) × (drop r.next s ≡ rest)
 
   again : (at : ℕ) (w : Net) (rest : List ℕ) → Legal w → Head at (kind_of w) (body_of w) rest → body_fits (kind_of w) (length (body_of w)) (get_or s (at + 4) 0) ≡ true
       → net_meant s (net_record (kind_of w) (length (body_of w)) (at + 4) (get_or s (at + 4) 0)) ≡ w → Again at w rest
@@ -118,7 +119,7 @@ module _ (s : List ℕ) where
       let all : ps ≡ listed (λ j. u16_at s (at + 4 + 1 + 2 * j)) (length ps) = is_listed _ (length ps) 0 ps refl (pins_of_lem ps (at + 4 + 1) rest after) in
       again at (gate ty ps) rest l head (rw (first, m) (l refl).0) (rw (first, m) (ap (gate ty) (sym all)))
 
-  pub end_again : (at : ℕ) (rest : List ℕ) → drop at s ≡ end_bytes ++ rest → (record_read s at ≡ End (at + 4)) × (drop (at + 4) s ≡ rest) × (at + 4 ≤ length s)
+  pub end_again : (at : ℕ) (rest : List ℕ) → drop at s ≡ end_bytes ++ rest → (record_read s at ≡ Ok (End (at + 4))) × (drop (at + 4) s ≡ rest) × (at + 4 ≤ length s)
   unfolding body_fits
   end_again at rest h =
       let head = head_of at 4 [] rest h in

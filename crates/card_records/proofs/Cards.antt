@@ -11,10 +11,12 @@ use lib.ListN.{length, drop, length-append, length-drop, drop_of_length-le}
 use Rattle.lists.specs.Entries.{◌∈◌, each}
 use Rattle.rule.specs.Net.{Net}
 use Rattle.rule.specs.declared.Refusal.{Refusal}
+use Rattle.std.specs.Prelude.{Result, Ok, Err}
+use Rattle.card_records.specs.declared.Fault.{Fault}
 use Rattle.card_records.specs.declared.Fault.TheVariants.{NoHead, BadHead, NoBody, BadBody}
 use Rattle.card_records.specs.declared.NetRecord.{NetRecord}
 use Rattle.card_records.specs.declared.Record.{Record}
-use Rattle.card_records.specs.declared.Record.TheVariants.{Bad, End, Net as Netted}
+use Rattle.card_records.specs.declared.Record.TheVariants.{End, Net as Netted}
 use Rattle.card_records.specs.Bytes.{record_read}
 use Rattle.card_records.specs.Scan.{Meaning, Stops, Means, net_meant, scan, meaning}
 use Rattle.card_records.specs.Stopped.{StopsAt, no_head, bad_head, no_body, bad_body, no_room, after, Stopped}
@@ -65,7 +67,7 @@ module _ (s : List ℕ) (bytes : Bytes s) where
   stops_here : (at : ℕ) (c : List Net) (r : Refusal) → length c ≤ 256 → StopsAt (drop at s) (length c) r → Told (drop at s) c (Stops r)
   stops_here at c r few why = ([], drop at s, refl, none_legal, rw (append-nil c) few, rw (append-nil c) why)
 
-  told_end : (room at next : ℕ) (c : List Net) → length c ≤ 256 → record_read s at ≡ End next → Told (drop at s) c (scan room s at c)
+  told_end : (room at next : ℕ) (c : List Net) → length c ≤ 256 → record_read s at ≡ Ok (End next) → Told (drop at s) c (scan room s at c)
   unfolding card_bytes
   told_end room at next c few e = go (ℕ_discrete next (length s)) (end_spelled s bytes at next e)
     where
@@ -78,14 +80,14 @@ module _ (s : List ℕ) (bytes : Bytes s) where
           (stops_here at c _ few (after (drop next s) h (λ none. q (omega (arith, ap length none, length-drop next s)))))
 
   -- whatever the record, once it is known what a net's leads to
-  told_by : (room at : ℕ) (c : List Net) → length c ≤ 256 → ((r : NetRecord) → record_read s at ≡ Netted r → Told (drop at s) c (scan room s at c))
+  told_by : (room at : ℕ) (c : List Net) → length c ≤ 256 → ((r : NetRecord) → record_read s at ≡ Ok (Netted r) → Told (drop at s) c (scan room s at c))
       → Told (drop at s) c (scan room s at c)
   told_by room at c few more = go (record_read s at) refl
     where
-      go : (r : Record) → record_read s at ≡ r → Told (drop at s) c (scan room s at c)
-      go (Bad f) e = rw (scan_bad s at c room f e) (stops_here at c _ few (fault_stops s at (length c) f e))
-      go (End next) e = told_end room at next c few e
-      go (Netted r) e = more r e
+      go : (r : Result Record Fault) → record_read s at ≡ r → Told (drop at s) c (scan room s at c)
+      go (Err f) e = rw (scan_bad s at c room f e) (stops_here at c _ few (fault_stops s at (length c) f e))
+      go (Ok (End next)) e = told_end room at next c few e
+      go (Ok (Netted r)) e = more r e
 
   told : (room at : ℕ) (c : List Net) → length c + room ≡ 256 → Told (drop at s) c (scan room s at c)
   told zero at c full = told_by 0 at c (omega arith) (λ r e.

@@ -1,5 +1,6 @@
 pub mod Heads
 pub mod TwoBytes
+pub mod Named
 pub mod Found
 pub mod Meant
 pub mod Scans

@@ -12,6 +12,7 @@ use Rattle.lists.proofs.Listed.{listed_none}
 use Rattle.word.proofs.Bits.{val_is_one}
 use Rattle.rule.specs.Net.{pins_of}
 use Rattle.card_wiring.specs.Layout.{kind_of, type_of}
+use Rattle.std.specs.Prelude.{Ok}
 use Rattle.card_records.specs.declared.NetRecord.{NetRecord}
 use Rattle.card_records.specs.declared.Record.TheVariants.{Net as Netted}
 use Rattle.card_records.specs.Bytes.{u16_at, body_fits, net_record, record_read}
@@ -38,8 +39,8 @@ meant_whole s at kind len first w no_end = go (kind_is kind len w.head) w.body
         rw e record { kind_of_lem = refl; type_of_lem = refl; pins_of_lem = refl; narrow = omega arith; inside = omega (arith, w.inside) }
     go (of_end e l) b = absurd (no_end e)
 
-pub meant : (s : List ℕ) (at : ℕ) (r : NetRecord) → record_read s at ≡ Netted r → Meant s r
+pub meant : (s : List ℕ) (at : ℕ) (r : NetRecord) → record_read s at ≡ Ok (Netted r) → Meant s r
 meant s at r e = go r (subst (FoundAt s at) e (found_at s at))
   where
-    go : (r : NetRecord) → FoundAt s at (Netted r) → Meant s r
+    go : (r : NetRecord) → FoundAt s at (Ok (Netted r)) → Meant s r
     go r (net w no_end) = meant_whole s at _ _ _ w no_end

@@ -15,6 +15,7 @@ use Rattle.word.specs.Word.{is_one, val}
 use Rattle.word.proofs.Bits.{val_is_one}
 use Rattle.rule.specs.Net.{Net}
 use Rattle.card_wiring.specs.Layout.{kind_of}
+use Rattle.std.specs.Prelude.{Ok}
 use Rattle.card_records.specs.declared.NetRecord.{NetRecord}
 use Rattle.card_records.specs.declared.Record.TheVariants.{End, Net as Netted}
 use Rattle.card_records.specs.Bytes.{u16_at, body_fits, type_fits, pin_count, net_record, record_read}
@@ -117,11 +118,11 @@ module _ (s : List ℕ) (bytes : Bytes s) where
           }
       go (of_end e l) inside b = absurd (no_end e)
 
-  pub net_spelled : (at : ℕ) (r : NetRecord) → record_read s at ≡ Netted r → (drop at s ≡ net_bytes (net_meant s r) ++ drop r.next s) × Legal (net_meant s r)
+  pub net_spelled : (at : ℕ) (r : NetRecord) → record_read s at ≡ Ok (Netted r) → (drop at s ≡ net_bytes (net_meant s r) ++ drop r.next s) × Legal (net_meant s r)
   unfolding net_bytes net_record
   net_spelled at r e = go r (meant s at r e) (subst (FoundAt s at) e (found_at s at))
     where
-      go : (r : NetRecord) → Meant s r → FoundAt s at (Netted r) → (drop at s ≡ net_bytes (net_meant s r) ++ drop r.next s) × Legal (net_meant s r)
+      go : (r : NetRecord) → Meant s r → FoundAt s at (Ok (Netted r)) → (drop at s ≡ net_bytes (net_meant s r) ++ drop r.next s) × Legal (net_meant s r)
       go r known (net w no_end) =
           let len : ℕ = u16_at s at in
           let v : Net = net_meant s (net_record (u16_at s (at + 2)) len (at + 4) (get_or s (at + 4) 0)) in
@@ -130,10 +131,10 @@ module _ (s : List ℕ) (bytes : Bytes s) where
             b.legal,
           )
 
-  pub end_spelled : (at next : ℕ) → record_read s at ≡ End next → (drop at s ≡ end_bytes ++ drop next s) × (next ≤ length s)
+  pub end_spelled : (at next : ℕ) → record_read s at ≡ Ok (End next) → (drop at s ≡ end_bytes ++ drop next s) × (next ≤ length s)
   end_spelled at next e = go next (subst (FoundAt s at) e (found_at s at))
     where
-      go : (next : ℕ) → FoundAt s at (End next) → (drop at s ≡ end_bytes ++ drop next s) × (next ≤ length s)
+      go : (next : ℕ) → FoundAt s at (Ok (End next)) → (drop at s ≡ end_bytes ++ drop next s) × (next ≤ length s)
       go next (end w e) =
           let none : u16_at s at ≡ 0 = end_length (u16_at s (at + 2)) (u16_at s at) w.head e in
           let there : at + 4 ≤ length s = omega (arith, w.inside) in

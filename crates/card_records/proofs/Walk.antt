@@ -8,13 +8,14 @@ use borrow.Author.Tests.{le-ltb}
 use Rattle.lists.specs.Listed.{listed}
 use Rattle.lists.proofs.Listed.{listed_same, listed_ext}
 use Rattle.rule.specs.Net.{Net, net_at, pins}
+use Rattle.rule.specs.declared.Refusal.{Refusal}
 use Rattle.rule.specs.declared.Refusal.TheVariants.{TooManyNets, BytesAfter}
 use Rattle.rule.proofs.Nets.{past_source, source_pins}
 use Rattle.card_wiring.specs.Layout.{kinds_of, types_of, counts_of, places_of}
+use Rattle.std.specs.Prelude.{Result, Ok, Err}
 use Rattle.card_records.specs.declared.Fault.{Fault}
 use Rattle.card_records.specs.declared.NetRecord.{NetRecord}
-use Rattle.card_records.specs.declared.Record.TheVariants.{Bad, End, Net as Netted}
-use Rattle.card_records.specs.declared.Outcome.TheVariants.{Read}
+use Rattle.card_records.specs.declared.Record.TheVariants.{End, Net as Netted}
 use Rattle.card_records.specs.declared.Parsed.{Parsed}
 use Rattle.card_records.specs.Bytes.{u16_at, record_read}
 use Rattle.card_records.specs.Inner.Reading.{laid, parsed_of}
@@ -56,23 +57,23 @@ begin s = record {
 
 module _ {s kinds types counts places : List ℕ} {n at : ℕ} (k : Walk s kinds types counts places n at) where
   -- it ends
-  pub bad : (f : Fault) → record_read s at ≡ Bad f → meaning s ≡ Stops (fault_of f)
+  pub bad : (f : Fault) → record_read s at ≡ Err f → meaning s ≡ Stops (fault_of f)
   bad f e = k.rest ∙ scan_bad s at k.card (256 - n) f e
 
-  pub after : (next : ℕ) → record_read s at ≡ End next → ¬ (next ≡ length s) → meaning s ≡ Stops BytesAfter
+  pub after : (next : ℕ) → record_read s at ≡ Ok (End next) → ¬ (next ≡ length s) → meaning s ≡ Stops BytesAfter
   after next e q = k.rest ∙ scan_after s at k.card (256 - n) next e q
 
-  pub full : (r : NetRecord) → record_read s at ≡ Netted r → n ≡ 256 → meaning s ≡ Stops TooManyNets
+  pub full : (r : NetRecord) → record_read s at ≡ Ok (Netted r) → n ≡ 256 → meaning s ≡ Stops TooManyNets
   full r e q = k.rest ∙ let no_room : 256 - n ≡ 0 = omega arith in rw no_room (scan_full s at k.card r e)
 
-  pub done : (next : ℕ) → record_read s at ≡ End next → next ≡ length s
-      → ◌≡◌ {A = Parsed} (record { outcome = Read n; kinds = kinds; types = types; counts = counts; places = places }) (parsed_of (meaning s))
+  pub done : (next : ℕ) → record_read s at ≡ Ok (End next) → next ≡ length s
+      → ◌≡◌ {A = Result Parsed Refusal} (Ok (record { nets = n; kinds = kinds; types = types; counts = counts; places = places })) (parsed_of (meaning s))
   done next e q =
       let m : meaning s ≡ Means k.card = k.rest ∙ scan_end s at k.card (256 - n) next e q in
       rw (m, k.kinds_are, k.types_are, k.counts_are, k.places_are, ← k.size)
 
   -- or goes on
-  pub more : (r : NetRecord) → record_read s at ≡ Netted r → n < 256
+  pub more : (r : NetRecord) → record_read s at ≡ Ok (Netted r) → n < 256
       → Walk s (set kinds n r.kind) (set types n r.ty) (set counts n r.count) (laid places (n * 8) (λ j. u16_at s (r.start + 2 * j)) r.count) (n + 1) r.next
   more r e l =
       let w : Net = net_meant s r in

@@ -1,10 +1,11 @@
 -- Card bytes: the record that stands at a place. Assumes nothing.
 -- "Each record is a two-byte body length, a two-byte kind, then the body. All numbers are little-endian."
-use Rattle.std.specs.Prelude.{Bool, true, false, cond, ◌&&◌, List, ℕ, ◌+◌, ◌-◌, ◌*◌, ◌/◌, ◌%◌, ltb, leb, eqb, length, get_or}
+use Rattle.std.specs.Prelude.{Bool, true, false, cond, ◌&&◌, List, ℕ, ◌+◌, ◌-◌, ◌*◌, ◌/◌, ◌%◌, ltb, leb, eqb, length, get_or, Result, Ok, Err}
+use Rattle.card_records.specs.declared.Fault.{Fault}
 use Rattle.card_records.specs.declared.Fault.TheVariants.{NoHead, BadHead, NoBody, BadBody}
 use Rattle.card_records.specs.declared.NetRecord.{NetRecord}
 use Rattle.card_records.specs.declared.Record.{Record}
-use Rattle.card_records.specs.declared.Record.TheVariants.{Bad, End, Net}
+use Rattle.card_records.specs.declared.Record.TheVariants.{End, Net}
 
 -- two bytes, the low one first
 unfoldable pub u16_at : List ℕ → ℕ → ℕ
@@ -44,15 +45,15 @@ net_record kind len body first = record {
 
 -- "head (1), kind and length (2), body present (1), body's contents (2)"; kinds 5 and 6 are unknown here. There are n bytes, and the head at
 -- that place says a kind and a length
-unfoldable pub record_at : (n at kind len first : ℕ) → Record
+unfoldable pub record_at : (n at kind len first : ℕ) → Result Record Fault
 record_at n at kind len first =
-    cond (ltb n (at + 4)) (Bad NoHead)
+    cond (ltb n (at + 4)) (Err NoHead)
     (cond (kind_fits kind len)
-    (cond (ltb n (at + 4 + len)) (Bad NoBody)
+    (cond (ltb n (at + 4 + len)) (Err NoBody)
     (cond (body_fits kind len first)
-    (cond (eqb kind 4) (End (at + 4)) (Net (net_record kind len (at + 4) first)))
-    (Bad (BadBody (at + 4 + len)))))
-    (Bad BadHead))
+    (cond (eqb kind 4) (Ok (End (at + 4))) (Ok (Net (net_record kind len (at + 4) first))))
+    (Err (BadBody (at + 4 + len)))))
+    (Err BadHead))
 
-unfoldable pub record_read : List ℕ → ℕ → Record
+unfoldable pub record_read : List ℕ → ℕ → Result Record Fault
 record_read s at = record_at (length s) at (u16_at s (at + 2)) (u16_at s at) (get_or s (at + 4) 0)

@@ -1,5 +1,5 @@
 -- Card bytes: the nets that they mean, or why they are refused. "nets, numbered from 0 in the order of their records". Assumes nothing.
-use Rattle.std.specs.Prelude.{cond, List, [], ◌∷◌, ◌++◌, ℕ, zero, suc, ◌+◌, ◌*◌, eqb, length}
+use Rattle.std.specs.Prelude.{cond, List, [], ◌∷◌, ◌++◌, ℕ, zero, suc, ◌+◌, ◌*◌, eqb, length, Result, Ok, Err}
 use Rattle.lists.specs.Listed.{listed}
 use Rattle.rule.specs.Net.{Net}
 use Rattle.rule.specs.declared.Refusal.{Refusal}
@@ -9,7 +9,7 @@ use Rattle.card_records.specs.declared.Fault.{Fault}
 use Rattle.card_records.specs.declared.Fault.TheVariants.{NoHead, BadHead, NoBody, BadBody}
 use Rattle.card_records.specs.declared.NetRecord.{NetRecord}
 use Rattle.card_records.specs.declared.Record.{Record}
-use Rattle.card_records.specs.declared.Record.TheVariants.{Bad, End, Net as Netted}
+use Rattle.card_records.specs.declared.Record.TheVariants.{End, Net as Netted}
 use Rattle.card_records.specs.Bytes.{u16_at, record_read}
 
 -- "input ends inside a head or body" (1); "kind unknown, length wrong for the kind, constant not 0 or 1, gate type unknown, pin count wrong
@@ -30,10 +30,10 @@ unfoldable pub net_meant : List ℕ → NetRecord → Net
 net_meant s r = net_of r.kind r.ty (listed (λ j. u16_at s (r.start + 2 * j)) r.count)
 
 -- one record, with the nets so far; `more` says what a further net leads to
-abbrev pub one : List ℕ → Record → List Net → (Net → ℕ → Meaning) → Meaning
-one s (Bad f) nets more = Stops (fault_of f)
-one s (End next) nets more = cond (eqb next (length s)) (Means nets) (Stops BytesAfter)
-one s (Netted r) nets more = more (net_meant s r) r.next
+abbrev pub one : List ℕ → Result Record Fault → List Net → (Net → ℕ → Meaning) → Meaning
+one s (Err f) nets more = Stops (fault_of f)
+one s (Ok (End next)) nets more = cond (eqb next (length s)) (Means nets) (Stops BytesAfter)
+one s (Ok (Netted r)) nets more = more (net_meant s r) r.next
 
 -- from a place, with the nets so far and room for so many more
 unfoldable pub scan : ℕ → List ℕ → ℕ → List Net → Meaning

@@ -1,14 +1,11 @@
 -- The calls that run many vectors: what they answer and leave, for any bytes. Assumes nothing.
-use Rattle.std.specs.Prelude.{cond, List, ℕ, ltb, length}
-use Rattle.rule.specs.declared.Refusal.TheVariants.{NotReady, NoRoom}
+use Rattle.std.specs.Prelude.{List, ℕ, length, Result, Ok, Err}
+use Rattle.rule.specs.declared.Refusal.{Refusal}
 use Rattle.rule.specs.Answers.{Answer}
-use Rattle.std.specs.Prelude.{Ok, Err}
 use Rattle.card.specs.declared.Session.{Session}
 use Rattle.operations.specs.declared.Engine.{Engine}
-use Rattle.host_bytes.specs.Layout.{session_length}
-use Rattle.host_made.specs.Made.{made_again}
 use Rattle.host_many.specs.Many.{many_by, many_judged, kept_many}
-use Rattle.host.specs.Calls.{packed}
+use Rattle.host.specs.Calls.{packed, session_in}
 
 pub record ManyShown : Type 0 where
   pub answer : ℕ
@@ -22,9 +19,9 @@ many_done engine s b vs room (Ok k) =
     let ran = many_by engine s vs s.inputs k room in
     record { answer = packed (Ok ran.count); bytes = kept_many engine b vs s.inputs k; words = ran.words }
 
+abbrev pub vectors_in : Engine → List ℕ → List ℕ → List ℕ → Result Session Refusal → ManyShown
+vectors_in engine b vs room (Err why) = record { answer = packed (Err why); bytes = b; words = room }
+vectors_in engine b vs room (Ok s) = many_done engine s b vs room (many_judged s vs (length room))
+
 unfoldable pub host_vectors : Engine → List ℕ → List ℕ → List ℕ → ManyShown
-host_vectors engine b vs room =
-    let m = made_again b in
-    let kept : Answer → ManyShown = λ a. record { answer = packed a; bytes = b; words = room } in
-    cond (ltb (length b) session_length) (kept (Err NoRoom))
-    (cond m.whole (many_done engine m.session b vs room (many_judged m.session vs (length room))) (kept (Err NotReady)))
+host_vectors engine b vs room = vectors_in engine b vs room (session_in b)

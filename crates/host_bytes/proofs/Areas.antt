@@ -6,9 +6,7 @@ use native.Mathlib.Decide.{dec_lt}
 use borrow.Rule.Slice.PartMut.{put_mid, Post-is}
 use Rattle.lists.specs.Places.{clear, area}
 use Rattle.host_bytes.specs.Layout.{older_at, last_at, card_at, session_length}
-use Rattle.operations.specs.declared.Engine.{Engine}
-use Rattle.operations.specs.declared.Engine.TheVariants.{Fields, Steps}
-use Rattle.host_bytes.specs.Kept.{last_room, byte_of, moved_state, mark_of}
+use Rattle.host_bytes.specs.Kept.{last_room}
 use Rattle.host_bytes.proofs.Bytes.{room_at, zero_byte}
 use Rattle.lists.proofs.Places.{clear_past, clear_step, length_area, area_in, area_out, put_start, put_next}
 
@@ -66,11 +64,6 @@ room_put b k long = append_assoc (take older_at x) (take 256 (drop last_at x)) (
 -- a card's state and the low and high byte of its length
 pub head_put : (b : List ℕ) (n : ℕ) → session_length ≤ length b → (1 ∷ n % 256 ∷ n / 256 % 256 ∷ []) ++ drop older_at b ≡ area b 0 older_at (1 ∷ n % 256 ∷ n / 256 % 256 ∷ [])
 head_put b n long = placed b 0 older_at (1 ∷ n % 256 ∷ n / 256 % 256 ∷ []) (1 ∷ n % 256 ∷ n / 256 % 256 ∷ []) (lit≤ tt) (omega arith) refl (λ i l. refl)
-
--- the byte that says by which engine a card was moved
-pub marked : (engine : Engine) → byte_of (moved_state engine) ≡ mark_of engine
-marked Fields = refl
-marked Steps = refl
 
 -- one byte written at the start
 pub first_put : (b : List ℕ) (k : ℕ) → 0 < length b → set b 0 k ≡ area b 0 1 (k ∷ [])

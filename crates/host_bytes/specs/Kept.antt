@@ -1,14 +1,11 @@
 -- What lent bytes hold after an operation that was done. Assumes nothing.
-use Rattle.std.specs.Prelude.{cond, eqb, List, [], ◌∷◌, ℕ, ◌+◌, ◌/◌, ◌%◌, length, get_or, Result, Ok, Err}
+use Rattle.std.specs.Prelude.{List, [], ◌∷◌, ℕ, ◌+◌, ◌/◌, ◌%◌, length, get_or}
 use Rattle.lists.specs.Listed.{listed}
 use Rattle.lists.specs.Places.{area}
 use Rattle.operations.specs.declared.Engine.{Engine}
 use Rattle.operations.specs.declared.Engine.TheVariants.{Fields, Steps}
 use Rattle.operations.specs.declared.Move.{Move}
 use Rattle.operations.specs.declared.Move.TheVariants.{Load, Rest, Vector}
-use Rattle.host_bytes.specs.declared.State.{State}
-use Rattle.host_bytes.specs.declared.State.TheVariants.{Empty, Loaded, Rested, Fields as ByFields, Steps as BySteps}
-use Rattle.host_bytes.specs.declared.NoState.{NoState}
 use Rattle.host_bytes.specs.Layout.{older_at, last_at, card_at, card_to}
 
 -- the room of the last vector
@@ -21,27 +18,6 @@ kept_card b card = area (area (area b 0 older_at (1 ∷ length card % 256 ∷ le
 
 unfoldable pub kept_rest : List ℕ → List ℕ → List ℕ
 kept_rest b v = area (area (area b 0 1 (2 ∷ [])) older_at last_at (0 ∷ [])) last_at card_at v
-
--- what byte 0 says is kept, and the byte that says it
-abbrev pub byte_of : State → ℕ
-byte_of Empty = 0
-byte_of Loaded = 1
-byte_of Rested = 2
-byte_of ByFields = 3
-byte_of BySteps = 4
-
-abbrev pub state_of : ℕ → Result State NoState
-state_of byte =
-    cond (eqb byte 0) (Ok Empty)
-    (cond (eqb byte 1) (Ok Loaded)
-    (cond (eqb byte 2) (Ok Rested)
-    (cond (eqb byte 3) (Ok ByFields)
-    (cond (eqb byte 4) (Ok BySteps) (Err (record {}))))))
-
--- what is kept of a card that a vector moved
-abbrev pub moved_state : Engine → State
-moved_state Fields = ByFields
-moved_state Steps = BySteps
 
 -- byte 0 of a session that a vector moved says by which engine
 abbrev pub mark_of : Engine → ℕ

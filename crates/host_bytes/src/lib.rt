@@ -5,7 +5,8 @@
 ghost use Rattle.std.specs.Prelude.{◌≡◌, ◌≤◌, length};
 ghost use Rattle.lists.specs.Places.{clear, area};
 ghost use Rattle.host_bytes.specs.Layout.{session_length};
-ghost use Rattle.host_bytes.specs.Kept.{state_of, byte_of, moved_state, kept_card, kept_rest, kept_vector, kept_by};
+ghost use Rattle.host_bytes.specs.Inner.States.{byte_of, state_of, moved_state};
+ghost use Rattle.host_bytes.specs.Kept.{kept_card, kept_rest, kept_vector, kept_by};
 
 use operations::{Engine, Move};
 

@@ -12,7 +12,8 @@ use Rattle.lists.specs.Entries.{◌∈◌}
 use Rattle.lists.proofs.Places.{clear_make}
 use Rattle.rule.specs.declared.Refusal.TheVariants.{NotReady, NoRoom}
 use Rattle.rule.specs.Answers.{Answer}
-use Rattle.std.specs.Prelude.{Ok, Err}
+use Rattle.std.specs.Prelude.{Result, Ok, Err}
+use Rattle.rule.specs.declared.Refusal.{Refusal}
 use Rattle.rule.specs.Numbers.{answer_number, answer_count}
 use Rattle.inputs.specs.Inputs.{given}
 use Rattle.card_records.specs.Written.{Bytes}
@@ -35,11 +36,10 @@ use Rattle.operations.specs.declared.Move.TheVariants.{Load, Rest, Vector}
 use Rattle.operations.specs.Operated.{vector_by, operated}
 use Rattle.operations.proofs.Engines.{count_by, by_ruled}
 use Rattle.host_bytes.specs.Layout.{session_length}
-use Rattle.host_made.specs.Made.{made_again}
 use Rattle.host_made.proofs.Making.{again_good}
-use Rattle.host.specs.Calls.{packed, Hosted, Shown, left_by, host_move, host_history}
+use Rattle.host.specs.Calls.{packed, session_in, left_by, move_in, host_move, history_in, host_history}
 use Rattle.host.proofs.Packing.{done_0, packed_few}
-use Rattle.host.proofs.Answering.{move_left, history_shown}
+use Rattle.host.proofs.Answering.{in_held, move_left, history_shown}
 use Rattle.host_laws.specs.Following.{Holding, HostCall, bytes_after, session_after, host_answers, library_answers}
 use Rattle.host_laws.proofs.Opened.{Kept, keeps_none, opened, closed}
 use Rattle.host_laws.proofs.Leaving.{load_holds, rest_holds, vector_holds}
@@ -51,62 +51,51 @@ zeros_hold b l h z = record { room = l; bytes = h; made = closed b h none (keeps
 -- a refused call leaves every byte as it was, of any bytes
 pub refused_kept : (how : Move) (b v : List ℕ) → ¬ ((host_move how b v).answer % 256 ≡ 0) → (host_move how b v).bytes ≡ b
 unfolding host_move
-refused_kept how b v n = go (ltb (length b) session_length) (made_again b).whole (operated how (made_again b).session v).answer n
+refused_kept how b v n = go (session_in b) n
   where
-    short : Hosted
-    short = record { answer = packed (Err NoRoom); bytes = b }
+    left : (a : Answer) → ¬ ((left_by how a b v).answer % 256 ≡ 0) → (left_by how a b v).bytes ≡ b
+    left (Err why) n = refl
+    left (Ok count) n = absurd (n (done_0 count))
 
-    unready : Hosted
-    unready = record { answer = packed (Err NotReady); bytes = b }
-
-    go : (x y : Bool) (a : Answer) → ¬ ((cond x short (cond y (left_by how a b v) unready)).answer % 256 ≡ 0)
-        → (cond x short (cond y (left_by how a b v) unready)).bytes ≡ b
-    go true y a n = refl
-    go false false a n = refl
-    go false true (Err why) n = refl
-    go false true (Ok count) n = absurd (n (done_0 count))
+    go : (x : Result Session Refusal) → ¬ ((move_in how b v x).answer % 256 ≡ 0) → (move_in how b v x).bytes ≡ b
+    go (Err why) n = refl
+    go (Ok s) n = left (operated how s v).answer n
 
 -- and a refused history leaves the three slices
 pub history_kept : (b words befores flags : List ℕ) → ¬ ((host_history b words befores flags).answer % 256 ≡ 0)
     → ((host_history b words befores flags).words ≡ words) × ((host_history b words befores flags).befores ≡ befores) × ((host_history b words befores flags).flags ≡ flags)
 unfolding host_history
-history_kept b words befores flags bad = go (ltb (length b) session_length) (made_again b).whole (history_of (made_again b).session words befores flags) refl bad
+history_kept b words befores flags bad = go (session_in b) bad
   where
-    kept : Answer → Shown
-    kept a = record { answer = packed a; words = words; befores = befores; flags = flags }
-
-    shows : Told → Shown
-    shows h = record { answer = packed h.answer; words = h.words; befores = h.befores; flags = h.flags }
-
-    refused : (h : Told) → history_of (made_again b).session words befores flags ≡ h → (a : Answer) → h.answer ≡ a → ¬ (packed a % 256 ≡ 0) → (h.words ≡ words) × (h.befores ≡ befores) × (h.flags ≡ flags)
-    refused h q (Err why) e x =
-        let same = sym q ∙ history_refused (made_again b).session words befores flags why (ap (λ k. k.answer) q ∙ e) in
+    refused : (s : Session) (h : Told) → history_of s words befores flags ≡ h → (a : Answer) → h.answer ≡ a → ¬ (packed a % 256 ≡ 0)
+        → (h.words ≡ words) × (h.befores ≡ befores) × (h.flags ≡ flags)
+    refused s h q (Err why) e x =
+        let same = sym q ∙ history_refused s words befores flags why (ap (λ k. k.answer) q ∙ e) in
         (ap (λ k. k.words) same, ap (λ k. k.befores) same, ap (λ k. k.flags) same)
-    refused h q (Ok count) e x = absurd (x (done_0 count))
+    refused s h q (Ok count) e x = absurd (x (done_0 count))
 
-    go : (x y : Bool) (h : Told) → history_of (made_again b).session words befores flags ≡ h
-        → ¬ ((cond x (kept (Err NoRoom)) (cond y (shows h) (kept (Err NotReady)))).answer % 256 ≡ 0)
-        → ((cond x (kept (Err NoRoom)) (cond y (shows h) (kept (Err NotReady)))).words ≡ words)
-        × ((cond x (kept (Err NoRoom)) (cond y (shows h) (kept (Err NotReady)))).befores ≡ befores)
-        × ((cond x (kept (Err NoRoom)) (cond y (shows h) (kept (Err NotReady)))).flags ≡ flags)
-    go true y h q n = (refl, refl, refl)
-    go false false h q n = (refl, refl, refl)
-    go false true h q n = refused h q h.answer refl n
+    go : (x : Result Session Refusal) → ¬ ((history_in words befores flags x).answer % 256 ≡ 0)
+        → ((history_in words befores flags x).words ≡ words) × ((history_in words befores flags x).befores ≡ befores) × ((history_in words befores flags x).flags ≡ flags)
+    go (Err why) n = (refl, refl, refl)
+    go (Ok s) n = let h = history_of s words befores flags in refused s h refl h.answer refl n
 
 -- One call
 
 module _ (b : List ℕ) (s : Session) (h : Holding b s) where
   -- the session that bytes hold meets the rule of sessions
   pub held_good : Good s
-  held_good = subst (λ m. Good m.session) h.made (again_good b h.bytes)
+  held_good = again_good b h.bytes s h.made
+
+  -- and it is what the calls find in them
+  pub held_in : session_in b ≡ Ok s
+  held_in = in_held b s h.room h.made
 
   held_kept : Kept b s
   held_kept = opened b h.bytes s h.made
 
   module _ (v : List ℕ) (g : Bytes v) where
     pub move_is : (how : Move) → host_move how b v ≡ left_by how (operated how s v).answer b v
-    move_is how =
-        sym (move_left how b v h.room (ap (λ m. m.whole) h.made)) ∙ ap (λ m. left_by how (operated how m.session v).answer b v) h.made
+    move_is how = sym (move_left how b v s held_in)
 
     left_answer : (how : Move) (a : Answer) → (left_by how a b v).answer ≡ packed a
     left_answer how (Err why) = refl
@@ -171,10 +160,7 @@ all_follow cs b l h z g = calls_follow cs b none (zeros_hold b l h z) g
 pub history_follows : (b : List ℕ) (s : Session) → Holding b s → (words befores flags : List ℕ)
     → host_history b words befores flags
     ≡ (let t = history_of s words befores flags in record { answer = packed t.answer; words = t.words; befores = t.befores; flags = t.flags })
-history_follows b s h words befores flags =
-    let t = history_of s words befores flags in
-    let e = ap (λ m. history_of m.session words befores flags) h.made in
-    sym (history_shown b words befores flags (packed t.answer) t h.room (ap (λ m. m.whole) h.made) (sym e) refl)
+history_follows b s h words befores flags = sym (history_shown b words befores flags s (history_of s words befores flags) (held_in b s h) refl)
 
 -- The count is whole in the number that is handed back
 

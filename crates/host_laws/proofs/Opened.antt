@@ -1,17 +1,15 @@
 -- What bytes that hold a session say of it: nothing, a card, a card at rest, or a card that a vector moved. Assumes nothing.
 use mathlib.Core.Path.{◌≡◌, refl, sym, ap, subst, ◌∙◌}
-use mathlib.Core.Bool.{Bool, true, false, cond, true≢false}
+use mathlib.Core.Bool.{Bool, true, false, cond}
 use mathlib.Core.List.{List}
-use mathlib.Core.Logic.{◌⊎◌, inl, inr}
 use Prim.Native.Nat.{ℕ, ◌+◌, ◌≤◌}
 use native.Mathlib.Omega.{arith}
 use lib.Dec.{eqb, ltb}
 use lib.ListN.{length, get_or}
 use borrow.Author.Tests.{eqb-true, ltb-false}
 use Rattle.lists.specs.Places.{part, clear}
-use Rattle.lists.proofs.Bools.{yes_or_no}
 use Rattle.rule.specs.Net.{Net}
-use Rattle.std.specs.Prelude.{Ok, Err}
+use Rattle.std.specs.Prelude.{Option, IfSome, Ok}
 use Rattle.inputs.specs.Inputs.{given}
 use Rattle.inputs.specs.Allowed.{Vector}
 use Rattle.card_records.specs.Bytes.{u16_at}
@@ -36,7 +34,6 @@ use Rattle.operations.proofs.Engines.{count_by, by_takes, by_ruled}
 use Rattle.host_bytes.specs.Layout.{older_at, last_at, card_at, longest_card, card_to, session_length}
 use Rattle.host_bytes.specs.Kept.{mark_of}
 use Rattle.host_bytes.proofs.Bytes.{part_bytes}
-use Rattle.host_made.specs.declared.Made.{Made}
 use Rattle.host_made.specs.Made.{broken, when_done, held, made_by, fitting, made_plain, made_rested, made_moved, made_card, made_loaded, made_again}
 use Rattle.host_made.proofs.Making.{by_done, plain_is, rested_is, moved_is, card_1, card_2, card_moved, loaded_is, again_none, again_loaded}
 
@@ -119,7 +116,7 @@ module _ (b : List ℕ) (h : Bytes b) where
       ∙ ap (λ x. made_card b x.session) l ∙ e
 
   pub closed : (s : Session) → Kept b s → made_again b ≡ held s
-  closed s (keeps_none z e) = sym (again_none b z) ∙ ap (λ x. record { whole = x; session = none }) e
+  closed s (keeps_none z e) = sym (again_none b z) ∙ ap (λ x. cond x (held none) broken) e
   closed s (keeps_card c k z f) =
       by_card c s k (λ o. let x = sym z ∙ o in omega arith) (sym (card_1 b (session_of c) z) ∙ sym (plain_is b (session_of c) f))
   closed s (keeps_rest c k z f w) =
@@ -138,12 +135,11 @@ module _ (b : List ℕ) (h : Bytes b) where
 
   -- Bytes that hold a session say so
 
-  abbrev Opens : Made → Type 0
-  Opens m = (m.whole ≡ false) ⊎ Kept b m.session
+  abbrev Opens : Option Session → Type 0
+  Opens m = IfSome m (Kept b)
 
   opens_not : Opens broken
-  unfolding broken
-  opens_not = inl refl
+  opens_not = tt
 
   module _ (c : List Net) (k : Carried b c) where
     opens_plain : get_or b 0 0 ≡ 1 → Opens (made_plain b (session_of c))
@@ -151,7 +147,7 @@ module _ (b : List ℕ) (h : Bytes b) where
     opens_plain z = go (fitting b 0 0) refl
       where
         go : (x : Bool) → fitting b 0 0 ≡ x → Opens (cond x (held (session_of c)) broken)
-        go true f = inr (keeps_card c k z f)
+        go true f = keeps_card c k z f
         go false f = opens_not
 
     opens_rested : get_or b 0 0 ≡ 2 → Opens (made_rested b (session_of c))
@@ -164,7 +160,7 @@ module _ (b : List ℕ) (h : Bytes b) where
         by : fitting b 0 (inputs c) ≡ true → (m : Moved) → Ruling (session_of c).loaded (session_of c) v 0 (at_rest c v) m
             → Opens (when_done m.answer (held m.session))
         by f m (refuses r g) = opens_not
-        by f m (takes l w) = inr (keeps_rest c k z f w)
+        by f m (takes l w) = keeps_rest c k z f w
 
         go : (x : Bool) → fitting b 0 (inputs c) ≡ x → Opens (cond x (made_by (rest_of (session_of c) v)) broken)
         go true f = by f (rest_of (session_of c) v) (rest_ruled (session_of c) v)
@@ -185,7 +181,7 @@ module _ (b : List ℕ) (h : Bytes b) where
             → Opens (when_done m.answer (held m.session))
         last f w m (refuses r g) = opens_not
         last f w m (takes l u) =
-            inr (subst (Kept b) (sym (both_same c o v)) (keeps_moved e c k z f w (subst (λ s. Vector s.inputs v) (rest_same c o).card u)))
+            subst (Kept b) (sym (both_same c o v)) (keeps_moved e c k z f w (subst (λ s. Vector s.inputs v) (rest_same c o).card u))
 
         by : fitting b (inputs c) (inputs c) ≡ true → (m : Moved) → Ruling (session_of c).loaded (session_of c) o 0 (at_rest c o) m
             → Opens (when_done m.answer (made_by (vector_by e m.session v)))
@@ -225,21 +221,16 @@ module _ (b : List ℕ) (h : Bytes b) where
   unfolding made_again
   opens_again = go (eqb (get_or b 0 0) 0) refl (ltb longest_card (u16_at b 1)) refl (clear b (card_at + u16_at b 1) card_to) refl
     where
-      clean : get_or b 0 0 ≡ 0 → (clear b 0 session_length ≡ true) ⊎ (clear b 0 session_length ≡ false)
-          → Opens (record { whole = clear b 0 session_length; session = none })
-      clean z (inl e) = inr (keeps_none z e)
-      clean z (inr e) = inl e
+      clean : get_or b 0 0 ≡ 0 → (x : Bool) → clear b 0 session_length ≡ x → Opens (cond x (held none) broken)
+      clean z true e = keeps_none z e
+      clean z false e = opens_not
 
       go : (x : Bool) → eqb (get_or b 0 0) 0 ≡ x → (y : Bool) → ltb longest_card (u16_at b 1) ≡ y → (z : Bool) → clear b (card_at + u16_at b 1) card_to ≡ z
-          → Opens (cond x (record { whole = clear b 0 session_length; session = none }) (cond y broken (cond z (made_loaded b (u16_at b 1)) broken)))
-      go true e y _ z _ = clean (eqb-true (get_or b 0 0) 0 e) (yes_or_no (clear b 0 session_length))
+          → Opens (cond x (cond (clear b 0 session_length) (held none) broken) (cond y broken (cond z (made_loaded b (u16_at b 1)) broken)))
+      go true e y _ z _ = clean (eqb-true (get_or b 0 0) 0 e) (clear b 0 session_length) refl
       go false _ true _ z _ = opens_not
       go false _ false e true f = opens_loaded (ltb-false longest_card (u16_at b 1) e) f
       go false _ false _ false _ = opens_not
 
   pub opened : (s : Session) → made_again b ≡ held s → Kept b s
-  opened s e = go (subst Opens e opens_again)
-    where
-      go : (true ≡ false) ⊎ Kept b s → Kept b s
-      go (inl n) = absurd (true≢false n)
-      go (inr k) = k
+  opened s e = subst Opens e opens_again

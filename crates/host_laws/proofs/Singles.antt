@@ -14,7 +14,8 @@ use Rattle.lists.proofs.Listed.{listed_none, listed_more}
 use Rattle.lists.proofs.Places.{turn_fits}
 use Rattle.rule.specs.declared.Refusal.TheVariants.{NotReady, NoRoom}
 use Rattle.rule.specs.Answers.{Answer}
-use Rattle.std.specs.Prelude.{Ok, Err}
+use Rattle.std.specs.Prelude.{Result, Ok, Err}
+use Rattle.rule.specs.declared.Refusal.{Refusal}
 use Rattle.inputs.specs.Inputs.{byte_fits}
 use Rattle.card_records.specs.Written.{Bytes}
 use Rattle.card.specs.declared.Session.{Session}
@@ -30,16 +31,15 @@ use Rattle.host_bytes.specs.Layout.{session_length}
 use Rattle.host_bytes.specs.Kept.{kept_vector}
 use Rattle.host_bytes.proofs.Bytes.{part_bytes}
 use Rattle.host_bytes.proofs.Rooms.{length_kept, kept_forgets}
-use Rattle.host_made.specs.Made.{made_again}
 use Rattle.host_many.specs.Many.{many_by, many_judged, kept_many}
 use Rattle.host_many.proofs.Words.{run_words, run_past}
 use Rattle.host_many.proofs.Many.{many_length, many_asks, many_left, each_count, many_same}
-use Rattle.host.specs.Calls.{packed, left_by, host_move, host_history}
-use Rattle.host.specs.Vectors.{many_done, ManyShown, host_vectors}
+use Rattle.host.specs.Calls.{packed, session_in, left_by, host_move, host_history}
+use Rattle.host.specs.Vectors.{many_done, ManyShown, vectors_in, host_vectors}
 use Rattle.host.proofs.Packing.{done_0}
 use Rattle.host.proofs.Vectors.{vectors_done}
 use Rattle.host_laws.specs.Following.{Holding, HostCall, bytes_after, session_after, each_vector}
-use Rattle.host_laws.proofs.Following.{held_good, move_is, move_follows, history_follows}
+use Rattle.host_laws.proofs.Following.{held_good, held_in, move_is, move_follows, history_follows}
 
 -- What vectors keep, one after another
 
@@ -130,21 +130,17 @@ module _ (engine : Engine) (b : List ℕ) (s : Session) (h : Holding b s) (vs ro
 pub many_refused : (engine : Engine) (b vs room : List ℕ) → ¬ ((host_vectors engine b vs room).answer % 256 ≡ 0)
     → ((host_vectors engine b vs room).bytes ≡ b) × ((host_vectors engine b vs room).words ≡ room)
 unfolding host_vectors
-many_refused engine b vs room x = go (ltb (length b) session_length) (made_again b).whole (many_judged (made_again b).session vs (length room)) x
+many_refused engine b vs room x = go (session_in b) x
   where
-    kept : Answer → ManyShown
-    kept a = record { answer = packed a; bytes = b; words = room }
+    done : (s : Session) (a : Answer) → ¬ ((many_done engine s b vs room a).answer % 256 ≡ 0)
+        → ((many_done engine s b vs room a).bytes ≡ b) × ((many_done engine s b vs room a).words ≡ room)
+    done s (Err why) x = (refl, refl)
+    done s (Ok j) x = absurd (x (done_0 (many_by engine s vs s.inputs j room).count))
 
-    done : Answer → ManyShown
-    done a = many_done engine (made_again b).session b vs room a
-
-    go : (x y : Bool) (a : Answer) → ¬ ((cond x (kept (Err NoRoom)) (cond y (done a) (kept (Err NotReady)))).answer % 256 ≡ 0)
-        → ((cond x (kept (Err NoRoom)) (cond y (done a) (kept (Err NotReady)))).bytes ≡ b)
-        × ((cond x (kept (Err NoRoom)) (cond y (done a) (kept (Err NotReady)))).words ≡ room)
-    go true y a x = (refl, refl)
-    go false false a x = (refl, refl)
-    go false true (Err why) x = (refl, refl)
-    go false true (Ok j) x = absurd (x (done_0 (many_by engine (made_again b).session vs (made_again b).session.inputs j room).count))
+    go : (m : Result Session Refusal) → ¬ ((vectors_in engine b vs room m).answer % 256 ≡ 0)
+        → ((vectors_in engine b vs room m).bytes ≡ b) × ((vectors_in engine b vs room m).words ≡ room)
+    go (Err why) x = (refl, refl)
+    go (Ok s) x = done s (many_judged s vs (length room)) x
 
 -- a history shows the words of the session that the bytes hold
 words_shown : (b : List ℕ) (s : Session) → Holding b s → s.rested ≡ true → (words befores flags : List ℕ) → Roomy s.nets words befores flags
@@ -157,9 +153,7 @@ words_shown b s h r words befores flags fits n l =
 
 vectors_are : (engine : Engine) (b vs room : List ℕ) (s : Session) → Holding b s → (k : ℕ) → many_judged s vs (length room) ≡ Ok k
     → host_vectors engine b vs room ≡ many_done engine s b vs room (Ok k)
-vectors_are engine b vs room s h k e =
-    sym (vectors_done engine b vs room h.room (ap (λ m. m.whole) h.made))
-    ∙ ap (λ m. many_done engine m.session b vs room (many_judged m.session vs (length room))) h.made ∙ ap (many_done engine s b vs room) e
+vectors_are engine b vs room s h k e = sym (vectors_done engine b vs room s (held_in b s h)) ∙ ap (many_done engine s b vs room) e
 
 module _ (engine : Engine) (b vs room : List ℕ) (s : Session) (h : Holding b s) (k : ℕ) (e : many_judged s vs (length room) ≡ Ok k) where
   abbrev shown : ManyShown

@@ -17,7 +17,7 @@ use Rattle.lists.proofs.Places.{clear_at, length_area, area_in, area_out, part_l
 use Rattle.lists.proofs.Listed.{length_listed}
 use Rattle.rule.specs.Net.{Net}
 use Rattle.rule.specs.declared.Refusal.TheVariants.{NotReady}
-use Rattle.std.specs.Prelude.{Ok, Err}
+use Rattle.std.specs.Prelude.{Option, None, Some, IsSome, is_some, Ok, Err}
 use Rattle.inputs.specs.Allowed.{Vector}
 use Rattle.card_records.specs.Bytes.{u16_at}
 use Rattle.card_records.specs.Written.{Bytes}
@@ -264,8 +264,8 @@ module _ (b : List ℕ) (long : session_length ≤ length b) (ok : Bytes b) (c :
 -- Bytes that no call left answer 12
 
 -- bytes from which a session is made again are bytes that some calls left of a slice of zeros
-pub bytes_left : (b : List ℕ) → session_length ≤ length b → Bytes b → (made_again b).whole ≡ true → Left b
-bytes_left b long ok e = go (made_again b).session (opened b ok (made_again b).session (ap (λ x. record { whole = x; session = (made_again b).session }) e))
+pub bytes_left : (b : List ℕ) → session_length ≤ length b → Bytes b → IsSome (made_again b) → Left b
+bytes_left b long ok e = made (made_again b) refl e
   where
     go : (s : Session) → Kept b s → Left b
     go s (keeps_none z q) = none_left b long ok q
@@ -273,23 +273,28 @@ bytes_left b long ok e = go (made_again b).session (opened b ok (made_again b).s
     go s (keeps_rest c k z f w) = rest_left b long ok c k z f w
     go s (keeps_moved e c k z f w u) = moved_left b long ok c k e z f w u
 
+    made : (m : Option Session) → made_again b ≡ m → IsSome m → Left b
+    made None q e = cc
+    made (Some s) q e = go s (opened b ok s q)
+
 -- and of bytes that some calls left a session is made again
-pub left_made : (b : List ℕ) → Left b → (session_length ≤ length b) × Bytes b × ((made_again b).whole ≡ true)
+pub left_made : (b : List ℕ) → Left b → (session_length ≤ length b) × Bytes b × IsSome (made_again b)
 left_made b l =
     let h = subst (λ x. Holding x (session_after none l.calls)) l.leave (all_follow l.calls l.zeros l.room l.bytes l.empty l.given).0 in
-    (h.room, h.bytes, ap (λ m. m.whole) h.made)
+    (h.room, h.bytes, ap is_some h.made)
 
 -- of bytes that no calls left of a slice whose first `session_length` bytes were 0, every call answers 12 and leaves everything as it was
 pub unleft_12 : (b : List ℕ) → session_length ≤ length b → Bytes b → ¬ Left b → Unready b
-unleft_12 b long ok n = go (yes_or_no (made_again b).whole)
+unleft_12 b long ok n = go (made_again b) refl
   where
-    is_12 : 12 ≡ packed (Err NotReady)
-    is_12 = sym (refused_number NotReady)
+    is_12 : packed (Err NotReady) ≡ 12
+    is_12 = refused_number NotReady
 
-    go : ((made_again b).whole ≡ true) ⊎ ((made_again b).whole ≡ false) → Unready b
-    go (inl e) = absurd (n (bytes_left b long ok e))
-    go (inr e) = record {
-      moves = λ how v. sym (move_broken how b v 12 long e is_12);
-      histories = λ words befores flags. sym (history_broken b words befores flags 12 long e is_12);
-      vectors = λ engine vs room. sym (vectors_broken engine b vs room 12 long e is_12);
+    go : (m : Option Session) → made_again b ≡ m → Unready b
+    go (Some s) e = absurd (n (bytes_left b long ok (ap is_some e)))
+    go None e = record {
+      moves = λ how v. sym (move_broken how b v long e) ∙ ap (λ x. record { answer = x; bytes = b }) is_12;
+      histories = λ words befores flags. sym (history_broken b words befores flags long e)
+          ∙ ap (λ x. record { answer = x; words = words; befores = befores; flags = flags }) is_12;
+      vectors = λ engine vs room. sym (vectors_broken engine b vs room long e) ∙ ap (λ x. record { answer = x; bytes = b; words = room }) is_12;
     }

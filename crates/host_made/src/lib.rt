@@ -4,44 +4,11 @@
 ghost use Rattle.std.specs.Prelude.{◌≡◌, ◌≤◌, length};
 ghost use Rattle.session.specs.Good.{Good};
 ghost use Rattle.host_bytes.specs.Layout.{longest_card, session_length};
-ghost use Rattle.host_made.specs.Made.{broken, made_by, fitting, made_plain, made_rested, made_moved, made_card, made_loaded, made_again};
+ghost use Rattle.host_made.specs.Made.{fitting, made_plain, made_rested, made_moved, made_card, made_loaded, made_again};
 
 use card::Session;
-use host_bytes::{CARD_AT, CARD_TO, LAST_AT, LONGEST_CARD, OLDER_AT, SESSION_LENGTH};
+use host_bytes::{CARD_AT, CARD_TO, LAST_AT, LONGEST_CARD, OLDER_AT, SESSION_LENGTH, State};
 use operations::Engine;
-use rule::Answer;
-use session::Moved;
-
-// What lent bytes hold: whether they are bytes that these calls leave, and the session.
-#[derive(Clone, Copy)]
-pub struct Made {
-    pub whole: bool,
-    pub session: Session,
-}
-
-fn broken_session() -> Made
-    ensures { result ≡ broken }
-{
-    Made {
-        whole: false,
-        session: card::empty(),
-    }
-}
-
-// What an operation left, if it was done.
-fn made_by(left: Moved) -> Made
-    ensures { result ≡ made_by left }
-{
-    let answer = left.answer;
-    let session = left.session;
-    match answer {
-        Answer::Refused(_) => broken_session(),
-        Answer::Done(_) => Made {
-            whole: true,
-            session,
-        },
-    }
-}
 
 // Whether the two rooms for vectors hold so many bytes each, and zeros past them.
 fn rooms_fit(b: &[u8], older: usize, last: usize) -> bool
@@ -53,104 +20,81 @@ fn rooms_fit(b: &[u8], older: usize, last: usize) -> bool
 }
 
 // A card made again that was not rested.
-fn made_plain(s: Session, b: &[u8]) -> Made
+fn made_plain(s: Session, b: &[u8]) -> Option<Session>
     requires { session_length ≤ length b.now }
     ensures { result ≡ made_plain b.now s }
 {
-    if !rooms_fit(b, 0, 0) {
-        return broken_session();
-    }
-    Made {
-        whole: true,
-        session: s,
-    }
+    rooms_fit(b, 0, 0).then_some(s)
 }
 
 // A card at rest made again.
-fn made_rested(s: Session, b: &[u8]) -> Made
+fn made_rested(mut s: Session, b: &[u8]) -> Option<Session>
     requires good { Good s × (s.inputs ≤ 256) }
     requires session_length_in_bounds { session_length ≤ length b.now }
     ensures { result ≡ made_rested b.now s }
 {
     let n = s.inputs;
     if !rooms_fit(b, 0, n) {
-        return broken_session();
+        return None;
     }
-    made_by(session::rest(s, &b[LAST_AT..LAST_AT + n]))
+    session::rest(&mut s, &b[LAST_AT..LAST_AT + n]).ok()?;
+    Some(s)
 }
 
 // A card that a vector moved, made again by the engine that moved it.
-fn made_moved(engine: Engine, s: Session, b: &[u8]) -> Made
+fn made_moved(engine: Engine, mut s: Session, b: &[u8]) -> Option<Session>
     requires good { Good s × (s.inputs ≤ 256) }
     requires session_length_in_bounds { session_length ≤ length b.now }
     ensures { result ≡ made_moved engine b.now s }
 {
     let n = s.inputs;
     if !rooms_fit(b, n, n) {
-        return broken_session();
+        return None;
     }
-    let rested = session::rest(s, &b[OLDER_AT..OLDER_AT + n]);
-    let answer = rested.answer;
-    let next = rested.session;
-    match answer {
-        Answer::Refused(_) => broken_session(),
-        Answer::Done(_) => made_by(operations::vector_by(engine, next, &b[LAST_AT..LAST_AT + n])),
-    }
+    session::rest(&mut s, &b[OLDER_AT..OLDER_AT + n]).ok()?;
+    operations::vector_by(engine, &mut s, &b[LAST_AT..LAST_AT + n]).ok()?;
+    Some(s)
 }
 
 // A card made again, by what byte 0 says of it.
-fn made_card(s: Session, b: &[u8]) -> Made
+fn made_card(s: Session, b: &[u8]) -> Option<Session>
     requires good { Good s × (s.inputs ≤ 256) }
     requires session_length_in_bounds { session_length ≤ length b.now }
     ensures { result ≡ made_card b.now s }
 {
-    let state = b[0];
-    if state == 1 {
-        return made_plain(s, b);
+    match State::try_from(b[0]).ok()? {
+        State::Empty => None,
+        State::Loaded => made_plain(s, b),
+        State::Rested => made_rested(s, b),
+        State::Fields => made_moved(Engine::Fields, s, b),
+        State::Steps => made_moved(Engine::Steps, s, b),
     }
-    if state == 2 {
-        return made_rested(s, b);
-    }
-    if state == 3 {
-        return made_moved(Engine::Fields, s, b);
-    }
-    if state == 4 {
-        return made_moved(Engine::Steps, s, b);
-    }
-    broken_session()
 }
 
 // The card's bytes loaded again, into the empty session.
-fn made_loaded(b: &[u8], len: usize) -> Made
+fn made_loaded(b: &[u8], len: usize) -> Option<Session>
     requires { (session_length ≤ length b.now) × (len ≤ longest_card) }
     ensures { result ≡ made_loaded b.now len }
 {
-    let left = card::load(card::empty(), &b[CARD_AT..CARD_AT + len]);
-    let answer = left.answer;
-    let session = left.session;
-    match answer {
-        Answer::Refused(_) => broken_session(),
-        Answer::Done(_) => made_card(session, b),
-    }
+    let mut s = card::empty();
+    card::load(&mut s, &b[CARD_AT..CARD_AT + len]).ok()?;
+    made_card(s, b)
 }
 
 // The session that lent bytes hold.
-pub fn made_again(b: &[u8]) -> Made
+pub fn made_again(b: &[u8]) -> Option<Session>
     requires { session_length ≤ length b.now }
     ensures { result ≡ made_again b.now }
 {
-    if b[0] == 0 {
-        return Made {
-            whole: host_bytes::is_clear(b, 0, SESSION_LENGTH),
-            session: card::empty(),
-        };
+    if b[0] == u8::from(State::Empty) {
+        return host_bytes::is_clear(b, 0, SESSION_LENGTH).then_some(card::empty());
     }
     let len = card_records::u16_at(b, 1);
     if LONGEST_CARD < len {
-        return broken_session();
+        return None;
     }
     if !host_bytes::is_clear(b, CARD_AT + len, CARD_TO) {
-        return broken_session();
+        return None;
     }
     made_loaded(b, len)
 }

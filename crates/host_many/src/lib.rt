@@ -28,11 +28,11 @@ fn put_words(words: &[u64; 256], n: usize, room: &mut [u64], at: usize)
 
 // Vectors by fields one after another, the first k of them, a byte an input each; the words of each history go to lent room, a word a net. Only the words
 // change from one vector to the next, so the session is not made again in between.
-fn many_fields(s: Session, vectors: &[u8], k: usize, room: &mut [u64])
-    requires good { Good s }
-    requires rested_value { (s.rested ≡ true) × (every byte_fits vectors.now ≡ true) }
-    requires inputs_in_bounds { (k * s.inputs ≤ length vectors.now) × (s.nets ≤ 256) × (k * s.nets ≤ length room.old) }
-    ensures { room.new ≡ (many_by Fields s vectors.now s.inputs k room.old).words }
+fn many_fields(s: &Session, vectors: &[u8], k: usize, room: &mut [u64])
+    requires good { Good s.now }
+    requires rested_value { (s.now.rested ≡ true) × (every byte_fits vectors.now ≡ true) }
+    requires inputs_in_bounds { (k * s.now.inputs ≤ length vectors.now) × (s.now.nets ≤ 256) × (k * s.now.nets ≤ length room.old) }
+    ensures { room.new ≡ (many_by Fields s.now vectors.now s.now.inputs k room.old).words }
 {
     let n = s.inputs;
     let nets = s.nets;
@@ -60,12 +60,12 @@ fn many_fields(s: Session, vectors: &[u8], k: usize, room: &mut [u64])
 }
 
 // The same by steps, along a list that is made once; what comes back is the count of the steps done for the last of them.
-fn many_steps(s: Session, vectors: &[u8], k: usize, room: &mut [u64]) -> usize
-    requires good { Good s }
-    requires rested_value { (s.rested ≡ true) × (every byte_fits vectors.now ≡ true) }
-    requires inputs_in_bounds { (k * s.inputs ≤ length vectors.now) × (s.nets ≤ 256) × (k * s.nets ≤ length room.old) }
-    ensures room_after { room.new ≡ (many_by Steps s vectors.now s.inputs k room.old).words }
-    ensures value { result ≡ (many_by Steps s vectors.now s.inputs k room.old).count }
+fn many_steps(s: &Session, vectors: &[u8], k: usize, room: &mut [u64]) -> usize
+    requires good { Good s.now }
+    requires rested_value { (s.now.rested ≡ true) × (every byte_fits vectors.now ≡ true) }
+    requires inputs_in_bounds { (k * s.now.inputs ≤ length vectors.now) × (s.now.nets ≤ 256) × (k * s.now.nets ≤ length room.old) }
+    ensures room_after { room.new ≡ (many_by Steps s.now vectors.now s.now.inputs k room.old).words }
+    ensures value { result ≡ (many_by Steps s.now vectors.now s.now.inputs k room.old).count }
 {
     let n = s.inputs;
     let nets = s.nets;
@@ -102,12 +102,12 @@ fn many_steps(s: Session, vectors: &[u8], k: usize, room: &mut [u64]) -> usize
 }
 
 // Vectors by an engine, one after another: the words of each go to lent room, and the count that comes with 0 is handed back.
-pub fn run_many(engine: Engine, s: Session, vectors: &[u8], k: usize, room: &mut [u64]) -> usize
-    requires good { Good s }
-    requires rested_value { (s.rested ≡ true) × (every byte_fits vectors.now ≡ true) }
-    requires inputs_in_bounds { (k * s.inputs ≤ length vectors.now) × (s.nets ≤ 256) × (k * s.nets ≤ length room.old) }
-    ensures room_after { room.new ≡ (many_by engine s vectors.now s.inputs k room.old).words }
-    ensures value { result ≡ (many_by engine s vectors.now s.inputs k room.old).count }
+pub fn run_many(engine: Engine, s: &Session, vectors: &[u8], k: usize, room: &mut [u64]) -> usize
+    requires good { Good s.now }
+    requires rested_value { (s.now.rested ≡ true) × (every byte_fits vectors.now ≡ true) }
+    requires inputs_in_bounds { (k * s.now.inputs ≤ length vectors.now) × (s.now.nets ≤ 256) × (k * s.now.nets ≤ length room.old) }
+    ensures room_after { room.new ≡ (many_by engine s.now vectors.now s.now.inputs k room.old).words }
+    ensures value { result ≡ (many_by engine s.now vectors.now s.now.inputs k room.old).count }
 {
     match engine {
         Engine::Fields => {
@@ -119,26 +119,26 @@ pub fn run_many(engine: Engine, s: Session, vectors: &[u8], k: usize, room: &mut
 }
 
 // Whether so many bytes are vectors for the session, and there is room for the words: 12, 10, 11, 18, or how many vectors they are.
-pub fn judge_many(s: Session, vectors: &[u8], room: usize) -> Answer
-    requires { Good s }
-    ensures { result ≡ many_judged s vectors.now room }
+pub fn judge_many(s: &Session, vectors: &[u8], room: usize) -> Answer
+    requires { Good s.now }
+    ensures { result ≡ many_judged s.now vectors.now room }
 {
     if !s.rested {
-        return Answer::Refused(Refusal::NotReady);
+        return Err(Refusal::NotReady);
     }
     let n = s.inputs;
     let nets = s.nets;
     if vectors.len() % n != 0 {
-        return Answer::Refused(Refusal::VectorLength);
+        return Err(Refusal::VectorLength);
     }
     if !inputs::bytes_fit(vectors) {
-        return Answer::Refused(Refusal::VectorByte);
+        return Err(Refusal::VectorByte);
     }
     let k = vectors.len() / n;
     if room / nets < k {
-        return Answer::Refused(Refusal::NoRoom);
+        return Err(Refusal::NoRoom);
     }
-    Answer::Done(k)
+    Ok(k)
 }
 
 // What is kept after vector j of many, of n bytes each.

@@ -3,53 +3,46 @@
 
 ghost use Rattle.std.specs.Prelude.{◌≡◌};
 ghost use Rattle.session.specs.Good.{Good};
-ghost use Rattle.operations.specs.Operated.{load_move, vector_by, operated};
+ghost use Rattle.operations.specs.Operated.{vector_by, operated};
 
 use card::Session;
-use session::Moved;
+use rule::Answer;
 
 // "both engines, the step list and the bit-fields" (demand 2)
-#[derive(Clone, Copy)]
+#[derive(Clone, Copy, Debug, PartialEq, Eq)]
 pub enum Engine {
     Fields,
     Steps,
 }
 
-#[derive(Clone, Copy)]
+#[derive(Clone, Copy, Debug, PartialEq, Eq)]
 pub enum Move {
     Load,
     Rest,
     Vector(Engine),
 }
 
-fn load(s: Session, bytes: &[u8]) -> Moved
-    ensures { result ≡ load_move s bytes.now }
-{
-    let left = card::load(s, bytes);
-    let answer = left.answer;
-    let session = left.session;
-    Moved { answer, session }
-}
-
 // A vector by an engine.
-pub fn vector_by(engine: Engine, s: Session, v: &[u8]) -> Moved
-    requires { Good s }
-    ensures { result ≡ vector_by engine s v.now }
+// a match and no closure: an engine is named by the calls for C, by the byte that is kept of it and by `vector_by` (specs/Operated.antt)
+pub fn vector_by(engine: Engine, session: &mut Session, v: &[u8]) -> Answer
+    requires { Good session.old }
+    ensures { record { answer = result; session = session.new } ≡ vector_by engine session.old v.now }
 {
     match engine {
-        Engine::Fields => session::vector(s, v),
-        Engine::Steps => step_run::vector_steps(s, v),
+        Engine::Fields => session::vector(session, v),
+        Engine::Steps => step_run::vector_steps(session, v),
     }
 }
 
 // An operation, with the bytes that it is given.
-pub fn operate(how: Move, s: Session, given: &[u8]) -> Moved
-    requires { Good s }
-    ensures { result ≡ operated how s given.now }
+// a match and no closure: the calls for C name the operation, and `operated` (specs/Operated.antt) says what each does
+pub fn operate(how: Move, session: &mut Session, given: &[u8]) -> Answer
+    requires { Good session.old }
+    ensures { record { answer = result; session = session.new } ≡ operated how session.old given.now }
 {
     match how {
-        Move::Load => load(s, given),
-        Move::Rest => session::rest(s, given),
-        Move::Vector(engine) => vector_by(engine, s, given),
+        Move::Load => card::load(session, given),
+        Move::Rest => session::rest(session, given),
+        Move::Vector(engine) => vector_by(engine, session, given),
     }
 }

@@ -1,18 +1,16 @@
 -- The sheet of a session file, as document 01's "The sheet program" has it. Assumes nothing.
-use Rattle.std.specs.Prelude.{cond, List, [], ◌++◌, ℕ, zero, suc, ◌+◌, ltb, length, take}
+use Rattle.std.specs.Prelude.{cond, List, [], ◌++◌, Some, None, Ok, Err, ℕ, zero, suc, ◌+◌, ltb, length, take}
 use Rattle.rule.specs.declared.Refusal.TheVariants.{NoRoom}
 use Rattle.rule.specs.Answers.{Answer}
-use Rattle.std.specs.Prelude.{Ok, Err}
 use Rattle.card.specs.declared.Session.{Session}
 use Rattle.card.specs.Loaded.{Loaded}
 use Rattle.card.specs.Session.{none}
 use Rattle.card.specs.Load.{load_of}
 use Rattle.session.specs.Moved.{Moved}
 use Rattle.session.specs.Moves.{rest_of, vector_of}
-use Rattle.sheet_text.specs.declared.Entry.{Entry}
-use Rattle.sheet_text.specs.declared.Entry.TheVariants.{Nothing, Bad, Rest, Vector}
+use Rattle.sheet_text.specs.declared.Entry.TheVariants.{Rest, Vector}
 use Rattle.sheet_text.specs.Lines.{refused_line, card_text, vector_text}
-use Rattle.sheet_text.specs.Walk.{card_end, entry_at, body}
+use Rattle.sheet_text.specs.Walk.{card_end, Found, entry_at, body}
 
 -- "It stops at the first refusal with a line `refused` and the number, and prints nothing else for that record."
 abbrev pub unless_refused : Answer → List ℕ → List ℕ
@@ -21,11 +19,11 @@ unless_refused (Err why) text = refused_line why
 
 -- one record, handed on to the session that those ahead of it left, with the number of vectors so far; `more` is the text of what follows.
 -- "A rest prints nothing."
-abbrev pub entry_text : List ℕ → ℕ → Session → ℕ → Entry → (ℕ → Session → ℕ → List ℕ) → List ℕ
-entry_text file at s k Nothing more = []
-entry_text file at s k (Bad why) more = refused_line why
-entry_text file at s k (Rest next) more = let m : Moved = rest_of s (body file at next) in unless_refused m.answer (more next m.session k)
-entry_text file at s k (Vector next) more =
+abbrev pub entry_text : List ℕ → ℕ → Session → ℕ → Found → (ℕ → Session → ℕ → List ℕ) → List ℕ
+entry_text file at s k (Ok None) more = []
+entry_text file at s k (Err why) more = refused_line why
+entry_text file at s k (Ok (Some (Rest next))) more = let m : Moved = rest_of s (body file at next) in unless_refused m.answer (more next m.session k)
+entry_text file at s k (Ok (Some (Vector next))) more =
     let m : Moved = vector_of s (body file at next) in
     unless_refused m.answer (vector_text (k + 1) m.session ++ more next m.session (k + 1))
 

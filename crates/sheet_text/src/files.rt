@@ -30,33 +30,28 @@ pub fn card_end(file: &[u8]) -> usize
     n
 }
 
-// What stands at a place after the card: head (1), kind (2), body present (1).
-pub fn entry_at(file: &[u8], at: usize) -> Entry
+// What stands at a place after the card, if anything does: head (1), kind (2), body present (1).
+#[tactic(auto, unfolding(crate::specs::Walk::entry_at, crate::specs::Walk::entry_in))]
+pub fn entry_at(file: &[u8], at: usize) -> Result<Option<Entry>, Refusal>
     ensures { result ≡ entry_at file.now at }
 {
     let n = file.len();
     if n <= at {
-        return Entry::Nothing;
+        return Ok(None);
     }
     if n - at < 4 {
-        return Entry::Bad(Refusal::CutShort);
+        return Err(Refusal::CutShort);
     }
     let len = card_records::u16_at(file, at);
     let kind = card_records::u16_at(file, at + 2);
     let next = at + 4 + len;
-    match kind {
-        5 => {
-            if n < next {
-                return Entry::Bad(Refusal::CutShort);
-            }
-            Entry::Rest(next)
-        }
-        6 => {
-            if n < next {
-                return Entry::Bad(Refusal::CutShort);
-            }
-            Entry::Vector(next)
-        }
-        _ => Entry::Bad(Refusal::BadRecord),
+    let entry = match kind {
+        5 => Entry::Rest(next),
+        6 => Entry::Vector(next),
+        _ => return Err(Refusal::BadRecord),
+    };
+    if n < next {
+        return Err(Refusal::CutShort);
     }
+    Ok(Some(entry))
 }

@@ -6,13 +6,10 @@ mod lines;
 
 pub use files::{card_end, entry_at};
 pub use lines::{put_card, put_refused, put_vector};
-use rule::Refusal;
 
-// What stands at a place after the card; a rest and a vector have the place of the next record.
+// A record after the card, with the place of the next one.
 #[derive(Clone, Copy)]
 pub enum Entry {
-    Nothing,
-    Bad(Refusal),
     Rest(usize),
     Vector(usize),
 }

@@ -18,15 +18,15 @@ pub fn put_refused(out: &mut [u8; 20480], why: Refusal) -> usize
     ensures { Put (refused_line why) out.old 0 out.new result }
 {
     let mut page = Page::new(out);
-    page.put_named(b"refused ", usize::from(rule::number(why)), b'\n');
+    page.put_named(b"refused ", usize::from(u8::from(why)), b'\n');
     page.at
 }
 
 // The first line: depth and length of the step list.
-pub fn put_card(out: &mut [u8; 20480], s: Session, depth: usize) -> usize
-    requires has_card { HasCard s }
-    requires depth_value { depth ≡ depth_of (card_of s) }
-    ensures { Put (card_text s) out.old 0 out.new result }
+pub fn put_card(out: &mut [u8; 20480], s: &Session, depth: usize) -> usize
+    requires has_card { HasCard s.now }
+    requires depth_value { depth ≡ depth_of (card_of s.now) }
+    ensures { Put (card_text s.now) out.old 0 out.new result }
 {
     let mut page = Page::new(out);
     page.put_named(b"depth ", depth, b' ');
@@ -77,15 +77,16 @@ fn put_nets(
 }
 
 // The lines of a vector: its number, and the histories that it left.
-pub fn put_vector(out: &mut [u8; 20480], s: Session, depth: usize, number: usize) -> usize
-    requires good { Good s }
-    requires rested_value { (s.rested ≡ true) × (depth ≡ depth_of (card_of s)) }
-    ensures { Put (vector_text number s) out.old 0 out.new result }
+pub fn put_vector(out: &mut [u8; 20480], s: &Session, depth: usize, number: usize) -> usize
+    requires good { Good s.now }
+    requires rested_value { (s.now.rested ≡ true) × (depth ≡ depth_of (card_of s.now)) }
+    ensures { Put (vector_text number s.now) out.old 0 out.new result }
 {
     let mut words = [0u64; 256];
     let mut befores = [0u8; 256];
     let mut flags = [0u8; 256];
-    history::history(s, &mut words, &mut befores, &mut flags);
+    // The session is rested and the rooms have all nets, so it is not refused.
+    let _ = history::history(s, &mut words, &mut befores, &mut flags);
     let mut page = Page::new(out);
     page.put_named(b"vector ", number, b'\n');
     put_nets(&mut page, depth, s.nets, &words, &befores, &flags);

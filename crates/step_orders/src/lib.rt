@@ -8,8 +8,7 @@ ghost use Rattle.step_vars.specs.Variables.{reads_in};
 ghost use Rattle.step_orders.specs.Orders.{entries_fit};
 ghost use Rattle.step_orders.specs.Inner.Ready.{StepEntry, order_steps, done_of, ready_in, judged_in};
 
-use card_wiring::Verdict;
-use rule::Refusal;
+use rule::{Refusal, Verdict};
 
 // Whether every entry of an order is a step's number, and none stands twice.
 fn entries_fit(order: &[u16], total: usize) -> bool
@@ -102,13 +101,13 @@ pub fn judge_order<'a>(
         ≡ judged_in counts.now places.now sets.now nets.now times.now total order.now }
 {
     if order.len() != total {
-        return Verdict::Refused(Refusal::OrderLength);
+        return Err(Refusal::OrderLength);
     }
     if !entries_fit(order, total) {
-        return Verdict::Refused(Refusal::OrderEntry);
+        return Err(Refusal::OrderEntry);
     }
     if !order_ready(counts, places, sets, n, nets, times, order) {
-        return Verdict::Refused(Refusal::OrderEarly);
+        return Err(Refusal::OrderEarly);
     }
-    Verdict::Passed
+    Ok(())
 }

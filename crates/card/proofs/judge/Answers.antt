@@ -5,11 +5,11 @@ use Rattle.card.proofs.judge.Goals as goal
 
 pub returns-then-inputs-eq0 : goal.returns-then-inputs-eq0
 returns-then-inputs-eq0 c =
-    let a = c.args in
-    judge_none a.session.now a.n a.kinds.now a.types.now a.counts.now a.places.now c.inputs_below-inputs.result c.inputs_below-inputs.ensures c.if-inputs-eq0.true
+    let a = c.args.card.now in
+    judge_none c.args.session.now a.nets a.kinds a.types a.counts a.places c.inputs_below-inputs.result c.inputs_below-inputs.ensures c.if-inputs-eq0.true
 
 pub returns : goal.returns
 returns c =
-    let a = c.args in
+    let a = c.args.card.now in
     c.conclude.ensures
-    ∙ judge_some a.session.now a.n a.kinds.now a.types.now a.counts.now a.places.now c.inputs_below-inputs.result c.inputs_below-inputs.ensures c.if-inputs-eq0.false
+    ∙ judge_some c.args.session.now a.nets a.kinds a.types a.counts a.places c.inputs_below-inputs.result c.inputs_below-inputs.ensures c.if-inputs-eq0.false

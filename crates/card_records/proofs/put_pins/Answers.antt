@@ -1,12 +1,12 @@
 -- A gate's pins, laid at their places: the first j of them are, and each turn lays one more. Assumes nothing.
-use mathlib.Core.Path.{◌≡◌, refl}
+use mathlib.Core.Path.{refl}
 use native.Mathlib.Omega.{arith}
 use native.Mathlib.Numerals.{add-one}
 use borrow.Author.Rules.{rules}
 use Rattle.card_records.proofs.put_pins.Goals as goal
 
 pub loop-j-init : goal.loop-j-init
-loop-j-init c = (omega arith, refl)
+loop-j-init c = refl
 
 pub overflow_add-start : goal.overflow_add-start
 overflow_add-start c = let inside = c.requires.2 (omega arith) in search rules
@@ -15,9 +15,4 @@ pub u16_at-requires : goal.u16_at-requires
 u16_at-requires c = let inside = c.requires.2 (omega arith) in omega arith
 
 pub loop-j-preserved : goal.loop-j-preserved
-loop-j-preserved c = (omega arith, rw (add-one, c.loop-j.invariant.1, c.u16_at.ensures.0))
-
-pub returns : goal.returns
-returns c =
-    let all : c.loop-j.j ≡ c.args.count = omega arith in
-    rw (← all) c.loop-j.invariant.1
+loop-j-preserved c = rw (add-one, c.loop-j.invariant, c.u16_at.ensures.0)

@@ -1,18 +1,17 @@
--- Whether a type may have so many pins: `type_fits`, at the tests that led to each return. Assumes nothing.
-use Prim.Native.Nat.{ℕ}
+-- Whether a type may have so many pins: `type_fits`, at what the arm says of the type. Assumes nothing.
 use native.Mathlib.Omega.{arith}
 use borrow.Author.Tests.{lt-ltb, le-ltb}
 use Rattle.card_records.specs.Bytes.{type_fits}
 use Rattle.card_records.proofs.type_fits.Goals as goal
 
-pub returns-then-ty-lt2 : goal.returns-then-ty-lt2
+pub returns-in-0 : goal.returns-in-0
 unfolding type_fits
-returns-then-ty-lt2 c = rw (lt-ltb c.args.ty 2 (omega arith))
+returns-in-0 c = rw (lt-ltb c.args.ty 2 (omega arith))
 
-pub returns-then-ty-lt8 : goal.returns-then-ty-lt8
+pub returns-in-2-to-7 : goal.returns-in-2-to-7
 unfolding type_fits
-returns-then-ty-lt8 c = let ty : ℕ = c.args.ty in rw (le-ltb ty 2 (omega arith), lt-ltb ty 8 (omega arith))
+returns-in-2-to-7 c = rw (le-ltb c.args.ty 2 (omega arith), lt-ltb c.args.ty 8 (omega arith))
 
-pub returns : goal.returns
+pub returns-in_default : goal.returns-in_default
 unfolding type_fits
-returns c = let ty : ℕ = c.args.ty in rw (le-ltb ty 2 (omega arith), le-ltb ty 8 (omega arith))
+returns-in_default c = rw (le-ltb c.args.ty 2 (omega arith), le-ltb c.args.ty 8 (omega arith))

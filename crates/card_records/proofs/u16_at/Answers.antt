@@ -5,4 +5,4 @@ use Rattle.card_records.proofs.u16_at.Goals as goal
 
 pub returns : goal.returns
 unfolding u16_at
-returns c = omega arith
+returns c = (omega arith, omega arith)

@@ -1,9 +1,9 @@
 -- Inner: cited by contracts between functions alone, and by laws. The head of a net's record, pins laid at their places, and a card's arrays as reading
 -- leaves them. They are the card's: `judge_laid` (card/proofs/Reading.antt). Assumes nothing.
-use Rattle.std.specs.Prelude.{◌≡◌, true, List, ℕ, zero, suc, ◌+◌, ◌^◌, ◌<◌, set, length, replicate}
+use Rattle.std.specs.Prelude.{◌≡◌, true, List, ℕ, zero, suc, ◌+◌, ◌^◌, ◌<◌, set, length, Result, Ok, Err}
+use Rattle.rule.specs.declared.Refusal.{Refusal}
 use Rattle.card_records.specs.Bytes.{kind_fits}
 use Rattle.card_wiring.specs.Layout.{kinds_of, types_of, counts_of, places_of}
-use Rattle.card_records.specs.declared.Outcome.TheVariants.{Refused, Read}
 use Rattle.card_records.specs.declared.Parsed.{Parsed}
 use Rattle.card_records.specs.Scan.{Meaning, Means, Stops}
 
@@ -19,6 +19,6 @@ laid xs a f zero = xs
 laid xs a f (suc j) = set (laid xs a f j) (a + j) (f j)
 
 -- the same laid out in arrays
-abbrev pub parsed_of : Meaning → Parsed
-parsed_of (Stops r) = record { outcome = Refused r; kinds = replicate 256 0; types = replicate 256 0; counts = replicate 256 0; places = replicate 2048 0 }
-parsed_of (Means c) = record { outcome = Read (length c); kinds = kinds_of c; types = types_of c; counts = counts_of c; places = places_of c }
+abbrev pub parsed_of : Meaning → Result Parsed Refusal
+parsed_of (Stops r) = Err r
+parsed_of (Means c) = Ok (record { nets = length c; kinds = kinds_of c; types = types_of c; counts = counts_of c; places = places_of c })

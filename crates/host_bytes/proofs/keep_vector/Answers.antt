@@ -3,8 +3,10 @@ use Rattle.std.proofs.Common.{ap, ◌∙◌, set, arith}
 use Rattle.std.specs.List.{copy_within}
 use Rattle.lists.specs.Places.{area}
 use Rattle.host_bytes.specs.Layout.{older_at, last_at, card_at}
-use Rattle.host_bytes.specs.Kept.{byte_of, mark_of, kept_vector}
-use Rattle.host_bytes.proofs.Areas.{first_put, marked, room_put}
+use Rattle.host_bytes.specs.Inner.States.{byte_of}
+use Rattle.host_bytes.specs.Kept.{mark_of, kept_vector}
+use Rattle.host_bytes.proofs.Areas.{first_put, room_put}
+use Rattle.host_bytes.proofs.States.{marked}
 use Rattle.host_bytes.proofs.keep_vector.Goals as goal
 
 pub returns : goal.returns

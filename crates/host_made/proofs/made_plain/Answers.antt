@@ -1,10 +1,10 @@
 -- `host_made::made_plain` meets its contract. Assumes nothing.
-use mathlib.Core.Path.{sym, ◌∙◌}
-use Rattle.host_made.proofs.Making.{plain_not, plain_is}
+use mathlib.Core.Path.{ap, ◌∙◌}
+use mathlib.Core.Bool.{cond}
+use Rattle.host_made.specs.Made.{broken, held, made_plain}
+use Rattle.host_made.proofs.Making.{if_passed}
 use Rattle.host_made.proofs.made_plain.Goals as goal
 
-pub returns-then-not-rooms_fit : goal.returns-then-not-rooms_fit
-returns-then-not-rooms_fit c = let a = c.args in c.broken_session.ensures ∙ plain_not a.b.now a.s (sym c.rooms_fit.ensures ∙ c.if-not-rooms_fit.true)
-
 pub returns : goal.returns
-returns c = let a = c.args in plain_is a.b.now a.s (sym c.rooms_fit.ensures ∙ c.if-not-rooms_fit.false)
+unfolding made_plain
+returns c = c.then_some.ensures ∙ if_passed c.rooms_fit.result c.args.s ∙ ap (λ x. cond x (held c.args.s) broken) c.rooms_fit.ensures

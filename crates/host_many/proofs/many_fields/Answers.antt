@@ -20,22 +20,22 @@ use Rattle.host_many.proofs.many_fields.Goals as goal
 use Rattle.host_many.proofs.many_fields.Goals.{At-loop-done, In-loop-done, Start}
 
 -- a rested session holds a card
-card : (c : Start) → HasCard c.args.s
+card : (c : Start) → HasCard c.args.s.now
 card c = c.requires.good.card (c.requires.good.rest c.requires.rested_value.0).0
 
 pub loop-done-init : goal.loop-done-init
 unfolding many_by
-loop-done-init c = let s = c.args.s in (omega arith, sym (zero-mul s.inputs), sym (zero-mul s.nets), refl, refl)
+loop-done-init c = let s = c.args.s.now in (omega arith, sym (zero-mul s.inputs), sym (zero-mul s.nets), refl, refl)
 
 -- the bytes of the next vector, and the room for its words, are there
-has : (c : In-loop-done) → (let l = c.loop-done in let a = c.args in Turn a.s a.vectors.now (length a.room.now) l.done l.from l.at)
+has : (c : In-loop-done) → (let l = c.loop-done in let a = c.args in Turn a.s.now a.vectors.now (length a.room.now) l.done l.from l.at)
 has c =
     let l = c.loop-done in
-    turn_has c.args.s _ _ c.args.k l.done _ _ l.invariant.1 l.invariant.2 c.loop-done-test.true c.requires.inputs_in_bounds.0 c.requires.inputs_in_bounds.2
+    turn_has c.args.s.now _ _ c.args.k l.done _ _ l.invariant.1 l.invariant.2 c.loop-done-test.true c.requires.inputs_in_bounds.0 c.requires.inputs_in_bounds.2
 
 -- the room has kept its length
 room_long : (c : At-loop-done) → length c.loop-done.room ≡ length c.args.room.now
-room_long c = let a = c.args in ap length c.loop-done.invariant.4 ∙ many_length Fields a.s a.vectors.now a.s.inputs c.loop-done.done a.room.now
+room_long c = let a = c.args in ap length c.loop-done.invariant.4 ∙ many_length Fields a.s.now a.vectors.now a.s.now.inputs c.loop-done.done a.room.now
 
 pub overflow_add-from : goal.overflow_add-from
 overflow_add-from c = let b = (has (goal.at.overflow_add-from c).In-loop-done).bytes_there in search rules
@@ -47,7 +47,7 @@ pub advance-requires : goal.advance-requires
 advance-requires c =
     let l = c.loop-done in
     let a = c.args in
-    let s = a.s in
+    let s = a.s.now in
     let h = card (goal.at.advance-requires c).Start in
     let turn = has (goal.at.advance-requires c).In-loop-done in
     let fits = turn.bytes_fit in
@@ -60,7 +60,7 @@ advance-requires c =
 pub put_words-requires : goal.put_words-requires
 put_words-requires c = (
   c.requires.inputs_in_bounds.1,
-  subst (λ x. c.loop-done.at + c.args.s.nets ≤ x) (sym (room_long (goal.at.put_words-requires c).At-loop-done)) (has (goal.at.put_words-requires c).In-loop-done).words_there,
+  subst (λ x. c.loop-done.at + c.args.s.now.nets ≤ x) (sym (room_long (goal.at.put_words-requires c).At-loop-done)) (has (goal.at.put_words-requires c).In-loop-done).words_there,
 )
 
 pub overflow_add-from-in-loop-done : goal.overflow_add-from-in-loop-done
@@ -72,7 +72,7 @@ overflow_add-at c = let b = (has (goal.at.overflow_add-at c).In-loop-done).words
 pub loop-done-preserved : goal.loop-done-preserved
 loop-done-preserved c =
     let l = c.loop-done in
-    let s = c.args.s in
+    let s = c.args.s.now in
     let vs = c.args.vectors.now in
     let room = c.args.room.now in
     let turn = has (goal.at.loop-done-preserved c).In-loop-done in
@@ -98,4 +98,4 @@ returns c =
     let l = c.loop-done in
     let a = c.args in
     let e : l.done ≡ a.k = omega (arith, l.invariant.0, c.loop-done-test.false) in
-    l.invariant.4 ∙ ap (λ j. (many_by Fields a.s a.vectors.now a.s.inputs j a.room.now).words) e
+    l.invariant.4 ∙ ap (λ j. (many_by Fields a.s.now a.vectors.now a.s.now.inputs j a.room.now).words) e

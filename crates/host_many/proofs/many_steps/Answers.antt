@@ -23,30 +23,30 @@ use Rattle.host_many.proofs.many_steps.Goals as goal
 use Rattle.host_many.proofs.many_steps.Goals.{After-put_list-total, At-loop-done, In-loop-done, Start}
 
 -- a rested session holds a card
-card : (c : Start) → HasCard c.args.s
+card : (c : Start) → HasCard c.args.s.now
 card c = c.requires.good.card (c.requires.good.rest c.requires.rested_value.0).0
 
 -- the list that is put is the card's
-ready : (c : After-put_list-total) → ListReady c.args.s c.put_list-total.new.nets c.put_list-total.new.times c.put_list-total.result
+ready : (c : After-put_list-total) → ListReady c.args.s.now c.put_list-total.new.nets c.put_list-total.new.times c.put_list-total.result
 ready c =
-    list_ready c.args.s (c.requires.good.card (c.requires.good.rest c.requires.rested_value.0).0) c.put_list-total.ensures (search rules) (search rules)
+    list_ready c.args.s.now (c.requires.good.card (c.requires.good.rest c.requires.rested_value.0).0) c.put_list-total.ensures (search rules) (search rules)
 
 pub put_list-total-requires : goal.put_list-total-requires
-put_list-total-requires c = record { gates_bound = list_asked c.args.s (card (goal.at.put_list-total-requires c).Start); nets_len = search rules }
+put_list-total-requires c = record { gates_bound = list_asked c.args.s.now (card (goal.at.put_list-total-requires c).Start); nets_len = search rules }
 
 pub loop-done-init : goal.loop-done-init
 unfolding many_by
-loop-done-init c = let s = c.args.s in (omega arith, sym (zero-mul s.inputs), sym (zero-mul s.nets), refl, refl, refl)
+loop-done-init c = let s = c.args.s.now in (omega arith, sym (zero-mul s.inputs), sym (zero-mul s.nets), refl, refl, refl)
 
 -- the bytes of the next vector, and the room for its words, are there
-has : (c : In-loop-done) → (let l = c.loop-done in let a = c.args in Turn a.s a.vectors.now (length a.room.now) l.done l.from l.at)
+has : (c : In-loop-done) → (let l = c.loop-done in let a = c.args in Turn a.s.now a.vectors.now (length a.room.now) l.done l.from l.at)
 has c =
     let l = c.loop-done in
-    turn_has c.args.s _ _ c.args.k l.done _ _ l.invariant.1 l.invariant.2 c.loop-done-test.true c.requires.inputs_in_bounds.0 c.requires.inputs_in_bounds.2
+    turn_has c.args.s.now _ _ c.args.k l.done _ _ l.invariant.1 l.invariant.2 c.loop-done-test.true c.requires.inputs_in_bounds.0 c.requires.inputs_in_bounds.2
 
 -- the room has kept its length
 room_long : (c : At-loop-done) → length c.loop-done.room ≡ length c.args.room.now
-room_long c = let a = c.args in ap length c.loop-done.invariant.5 ∙ many_length Steps a.s a.vectors.now a.s.inputs c.loop-done.done a.room.now
+room_long c = let a = c.args in ap length c.loop-done.invariant.5 ∙ many_length Steps a.s.now a.vectors.now a.s.now.inputs c.loop-done.done a.room.now
 
 pub overflow_add-from : goal.overflow_add-from
 overflow_add-from c = let b = (has (goal.at.overflow_add-from c).In-loop-done).bytes_there in search rules
@@ -58,7 +58,7 @@ pub advance-left-requires : goal.advance-left-requires
 advance-left-requires c =
     let l = c.loop-done in
     let a = c.args in
-    let s = a.s in
+    let s = a.s.now in
     let h = card (goal.at.advance-left-requires c).Start in
     let turn = has (goal.at.advance-left-requires c).In-loop-done in
     let size = ap length turn.bytes_are ∙ (many_vector a.vectors.now s.inputs l.done c.requires.rested_value.1 turn.bytes_fit).size in
@@ -69,7 +69,7 @@ advance-left-requires c =
 pub put_words-requires : goal.put_words-requires
 put_words-requires c = (
   c.requires.inputs_in_bounds.1,
-  subst (λ x. c.loop-done.at + c.args.s.nets ≤ x) (sym (room_long (goal.at.put_words-requires c).At-loop-done)) (has (goal.at.put_words-requires c).In-loop-done).words_there,
+  subst (λ x. c.loop-done.at + c.args.s.now.nets ≤ x) (sym (room_long (goal.at.put_words-requires c).At-loop-done)) (has (goal.at.put_words-requires c).In-loop-done).words_there,
 )
 
 pub overflow_add-from-in-loop-done : goal.overflow_add-from-in-loop-done
@@ -81,7 +81,7 @@ overflow_add-at c = let b = (has (goal.at.overflow_add-at c).In-loop-done).words
 pub loop-done-preserved : goal.loop-done-preserved
 loop-done-preserved c =
     let l = c.loop-done in
-    let s = c.args.s in
+    let s = c.args.s.now in
     let vs = c.args.vectors.now in
     let room = c.args.room.now in
     let turn = has (goal.at.loop-done-preserved c).In-loop-done in
@@ -108,6 +108,6 @@ pub returns : goal.returns
 returns c =
     let l = c.loop-done in
     let a = c.args in
-    let ran : ℕ → ManyRan = λ j. many_by Steps a.s a.vectors.now a.s.inputs j a.room.now in
+    let ran : ℕ → ManyRan = λ j. many_by Steps a.s.now a.vectors.now a.s.now.inputs j a.room.now in
     let e : l.done ≡ a.k = omega (arith, l.invariant.0, c.loop-done-test.false) in
     record { room_after = l.invariant.5 ∙ ap (λ j. (ran j).words) e; value = l.invariant.4 ∙ ap (λ j. (ran j).count) e }

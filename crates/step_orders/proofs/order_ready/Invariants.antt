@@ -8,4 +8,3 @@ abbrev pub invariant-loop-entry : goal.invariant-loop-entry
 invariant-loop-entry l =
     (l.entry-index ≤ length l.order)
     × (ready_in l.counts l.places l.sets (replicate 256 1) (order_steps l.nets l.times l.order) ≡ ready_in l.counts l.places l.sets l.done (order_steps l.nets l.times (drop l.entry-index l.order)))
-

@@ -7,4 +7,3 @@ use Rattle.step_orders.proofs.reads_done.Given as goal
 
 abbrev pub invariant-loop-j : goal.invariant-loop-j
 invariant-loop-j l = every (pin_done l.done l.counts l.places l.sets l.g l.t) (listed (pin_of l.done l.counts l.places l.sets l.g l.t) l.j) ≡ true
-

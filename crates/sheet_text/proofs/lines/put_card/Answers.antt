@@ -19,8 +19,8 @@ pub steps_of-requires : goal.steps_of-requires
 steps_of-requires c l = c.requires.has_card
 
 -- the number is the card's
-steps_are : (c : After-steps_of) → (let s = c.args.s in c.steps_of.result ≡ length (step_list (card_of s)))
-steps_are c = c.steps_of.ensures ∙ steps_loaded c.args.s (loaded_is c.args.s c.requires.has_card)
+steps_are : (c : After-steps_of) → (let s = c.args.s.now in c.steps_of.result ≡ length (step_list (card_of s)))
+steps_are c = c.steps_of.ensures ∙ steps_loaded c.args.s.now (loaded_is c.args.s.now c.requires.has_card)
 
 pub put_named-requires-2 : goal.put_named-requires-2
 put_named-requires-2 c =
@@ -34,7 +34,7 @@ put_named-requires-2 c =
           (omega (
             arith,
             steps_are (goal.at.put_named-requires-2 c).After-steps_of,
-            card_steps c.args.s
+            card_steps c.args.s.now
                 c.requires.has_card,
           )),
     )

@@ -16,8 +16,7 @@ put_net-requires c = (c.requires.0, omega (arith, c.requires.1), omega (arith, c
 pub loop-i-preserved : goal.loop-i-preserved
 loop-i-preserved c =
     let a = c.args in
-    let l = c.loop-i in
-    (
+    let l = c.loop-i in (
       lines_more (line_in a.depth a.words.now a.befores.now a.flags.now) l.i l.invariant.0 c.put_net.ensures.0,
       omega (arith, l.invariant.1, c.put_net.ensures.1),
     )

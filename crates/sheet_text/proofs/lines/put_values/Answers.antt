@@ -1,6 +1,5 @@
 -- `sheet_text::lines::put_values` meets its contract. The loop's invariant: the values at times below t are put. Assumes nothing.
 use mathlib.Core.Path.{◌≡◌, sym, ap, ◌∙◌}
-use mathlib.Core.Bool.{Bool, true, false}
 use Prim.Native.Nat.{◌+◌}
 use native.Mathlib.Omega.{arith}
 use Rattle.lists.specs.Listed.{listed}

@@ -17,17 +17,17 @@ put_named-requires c = omega (arith, c.new-page.ensures.front, word_short c.args
 
 pub put_nets-requires : goal.put_nets-requires
 put_nets-requires c =
-    let h = holds c.args.s c.requires.good c.requires.rested_value.0 in (
-      omega (arith, c.requires.rested_value.1, card_depth c.args.s h),
-      few c.args.s h,
+    let h = holds c.args.s.now c.requires.good c.requires.rested_value.0 in (
+      omega (arith, c.requires.rested_value.1, card_depth c.args.s.now h),
+      few c.args.s.now h,
       omega
-          (arith, few c.args.s h, c.new-page.ensures.front, c.put_named.ensures.put.end_is, word_short c.args.number lf (omega arith)),
+          (arith, few c.args.s.now h, c.new-page.ensures.front, c.put_named.ensures.put.end_is, word_short c.args.number lf (omega arith)),
     )
 
 pub returns : goal.returns
 unfolding vector_text
 returns c =
-    let s = c.args.s in
+    let s = c.args.s.now in
     let page = c.new-page.ensures in
     let h = holds s c.requires.good c.requires.rested_value.0 in
     put_lent page.same_room page.as_it_was page.front
