@@ -7,11 +7,11 @@ use Prim.Native.Nat.{ℕ, ◌+◌, ◌≤◌, ◌<◌}
 use native.Mathlib.Omega.{arith}
 use native.Mathlib.Decide.{dec_le}
 use lib.Dec.{eqb, ltb, lit<}
-use lib.ListN.{length, get_or}
+use lib.ListN.{length, get_or, take}
 use borrow.Author.Tests.{lt-ltb, le-ltb, eqb-false}
 use Rattle.lists.specs.Entries.{◌∈◌}
 use Rattle.lists.specs.Listed.{listed}
-use Rattle.lists.proofs.Listed.{listed_at}
+use Rattle.lists.proofs.Listed.{length_listed, listed_at, listed_all}
 use Rattle.lists.proofs.Number.{distinct_below}
 use Rattle.word.specs.Word.{word_of}
 use Rattle.rule.specs.Net.{Net as CardNet, pins, open_pin}
@@ -23,9 +23,10 @@ use Rattle.std.specs.Prelude.{Ok, Err}
 use Rattle.rule.proofs.Depths.{level_depth}
 use Rattle.rule.proofs.GateOrders.{out_order, order_once}
 use Rattle.card_wiring.specs.Layout.{kinds_of, types_of, counts_of, places_of, pins_at, padded}
-use Rattle.card_wiring.specs.Inner.Wires.{delay_at, Wires, Fitting, backs, highest, sizes_of}
+use Rattle.card_wiring.specs.Inner.Wires.{delay_at, Wires, Fitting, all_fit, backs, highest, sizes_of}
 use Rattle.card_wiring.specs.Wired.{set_words}
 use Rattle.card_wiring.proofs.Layouts.{pins_laid, levels_laid, depth_laid, wires_laid, card_laid}
+use Rattle.card_wiring.proofs.Pins.{all_fitting, front_listed}
 use Rattle.card_wiring.proofs.Orders.{padded_all, padded_back}
 use Rattle.card_wiring.proofs.CardSets.{sizes_laid}
 use Rattle.inputs.specs.Inputs.{input_nets}
@@ -146,6 +147,22 @@ module _ (s : Session) (h : HasCard s) where
 
   pub card_fitting : Fitting s.counts s.places s.nets
   card_fitting g p m = subst (λ k. (p < k) ⊎ (p ≡ open_pin)) (sym nets_are) (h.accepted.named g p (subst (λ f. p ∈ f g) card_pins m))
+
+  pub card_all_fit : all_fit s.counts s.places s.nets ≡ true
+  card_all_fit = all_fitting s.counts s.places s.nets card_fitting
+
+  -- its gates stand at the front of their array,
+  pub gates_fit : s.gates ≤ length s.order
+  gates_fit = let few = order_fits.0 in rw (order_is, length_listed) few
+
+  pub gates_front : take s.gates s.order ≡ listed (λ i. get_or s.order i 0) s.gates
+  gates_front = front_listed s.order s.gates gates_fit
+
+  -- and are nets
+  pub gates_few : (gs : List ℕ) → gs ≡ listed (λ i. get_or s.order i 0) s.gates → (length gs ≤ 256) × ((i : ℕ) → get_or gs i 0 < 256)
+  gates_few gs e =
+      rw (e, length_listed)
+      (order_fits.0, λ i. listed_all (λ x. x < 256) (λ k. get_or s.order k 0) s.gates i 0 (order_fits.1 i) (lit< tt))
 
   -- its depth and the number of its steps are within the limits
   pub card_depth : depth c ≤ 63

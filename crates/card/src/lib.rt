@@ -1,16 +1,18 @@
 // The session, and load: from any bytes at all to a card or a number.
 #![tactic(auto)]
 
-ghost use Rattle.std.specs.Prelude.{◌≡◌, ◌≤◌, eqb, get_or};
+ghost use Rattle.std.specs.Prelude.{◌≡◌, ℕ, ◌≤◌, eqb, get_or};
+ghost use Rattle.lists.specs.Listed.{listed};
 ghost use Rattle.word.specs.Times.{count};
 ghost use Rattle.card_wiring.specs.Inner.Wires.{Wires};
 ghost use Rattle.card.specs.Session.{none};
 ghost use Rattle.card.specs.Load.{load_of};
 ghost use Rattle.card.specs.Inner.Arrays.{arrays_concluded, arrays_judged};
-ghost use Rattle.card.specs.Held.{Carded};
+ghost use Rattle.card.specs.Held.{HasCard, Carded};
 ghost use Rattle.card.specs.Asked.{net_asked, depth_asked, steps_asked};
 
 use card_records::Parsed;
+use card_wiring::Wiring;
 use rule::{Answer, NetAnswer, NetFacts, Refusal};
 
 // A card, laid out in arrays, its rest and the histories of the last vector. The operations borrow it, and leave it as it stood where they refuse.
@@ -37,6 +39,28 @@ pub struct Session {
     // The values ahead of time 0, and the histories: bit t of a net's word is its value at time t.
     pub before: [bool; 256],
     pub words: [u64; 256],
+}
+
+impl Session {
+    // The wiring of its card.
+    pub fn wiring(&self) -> Wiring
+        requires { HasCard self.now }
+        ensures { (result.counts.now ≡ self.now.counts) × (result.places.now ≡ self.now.places) × (result.nets ≡ self.now.nets) }
+    {
+        Wiring {
+            counts: &self.counts,
+            places: &self.places,
+            nets: self.nets,
+        }
+    }
+
+    // Its card's gates in their order.
+    pub fn gate_list(&self) -> &[u16]
+        requires { HasCard self.now }
+        ensures { result.now ≡ listed (λ (i : ℕ). get_or self.now.order i 0) self.now.gates }
+    {
+        &self.order[..self.gates]
+    }
 }
 
 // The empty session.
@@ -133,7 +157,7 @@ pub fn ask_net(s: &Session, n: u64) -> NetAnswer
         return Err(Refusal::NoSuchNet);
     }
     let at = n as usize;
-    let levels = card_wiring::gates_back(&s.counts, &s.places, s.nets);
+    let levels = s.wiring().gates_back();
     Ok(NetFacts {
         level: levels[at],
         word: s.sets[at],
@@ -148,7 +172,7 @@ pub fn depth_of(s: &Session) -> usize
     if !s.loaded {
         return 0;
     }
-    let levels = card_wiring::gates_back(&s.counts, &s.places, s.nets);
+    let levels = s.wiring().gates_back();
     card_wiring::highest_of(&levels, s.nets) as usize
 }
 
@@ -160,5 +184,5 @@ pub fn steps_of(s: &Session) -> usize
     if !s.loaded {
         return 0;
     }
-    card_wiring::sizes_of(&s.sets, &s.order, s.gates)
+    card_wiring::sizes_of(&s.sets, s.gate_list())
 }

@@ -3,25 +3,21 @@
 use mathlib.Core.Path.{◌≡◌}
 use mathlib.Core.Bool.{true}
 use mathlib.Core.List.{List, [], ◌∷◌, map}
-use mathlib.Core.Logic.{◌⊎◌, inl, inr}
 use Prim.Native.Nat.{ℕ, ◌+◌, ◌≤◌, ◌<◌}
 use native.Mathlib.Omega.{arith}
 use native.Mathlib.Decide.{dec_lt}
-use lib.Dec.{ltb}
 use lib.ListN.{length}
-use borrow.Author.Tests.{lt-ltb, eq-eqb}
 use Rattle.lists.specs.Entries.{every, from}
-use Rattle.lists.proofs.Bools.{or_later}
 use Rattle.lists.proofs.Tests.{every_at, every_yes}
 use Rattle.lists.proofs.Joined.{in_from}
-use Rattle.rule.specs.Net.{Net, pins, open_pin, Named}
+use Rattle.rule.specs.Net.{Net, pins, Named}
 use Rattle.rule.specs.Level.{most, gates_back, Looped}
 use Rattle.rule.proofs.Nets.{pin_listed}
 use Rattle.rule.proofs.Levels.{most_at}
 use Rattle.rule.proofs.Depths.{longest_most}
 use Rattle.rule.proofs.Loops.{counted_no_loop, some_loop}
 use Rattle.card_wiring.specs.Wired.{pin_fits, pins_fit, most_back}
-use Rattle.card_wiring.proofs.Pins.{fits_named}
+use Rattle.card_wiring.proofs.Pins.{fits_named, named_fits}
 
 module _ (c : List Net) where
   -- 4 is passed exactly where every pin names a net or is open
@@ -33,11 +29,7 @@ module _ (c : List Net) where
 
   pub named_fit : Named c → pins_fit c ≡ true
   unfolding pins_fit
-  named_fit named = every_yes _ (from 0 (length c)) (λ g m. every_yes (pin_fits (length c)) (pins c g) (λ p i. fits p (named g p i)))
-    where
-      fits : (p : ℕ) → (p < length c) ⊎ (p ≡ open_pin) → pin_fits (length c) p ≡ true
-      fits p (inl l) = rw (lt-ltb p (length c) l)
-      fits p (inr e) = or_later (ltb p (length c)) _ (eq-eqb p open_pin e)
+  named_fit named = every_yes _ (from 0 (length c)) (λ g m. every_yes (pin_fits (length c)) (pins c g) (λ p i. named_fits (length c) p (named g p i)))
 
   -- 5 is passed exactly where no net reaches itself
   back_most : (n : ℕ) → gates_back c (length c + 1) n ≤ most_back c

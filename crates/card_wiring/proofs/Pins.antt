@@ -12,13 +12,13 @@ use Rattle.std.specs.List.{list_all, range_with_len}
 use lib.Dec.{ltb, eqb}
 use lib.ListN.{length, get_or, take, drop}
 use Rattle.std.proofs.lemmas.List.{length-take, length-drop, length-take-le, get_or-take, get_or-drop, take_more}
-use borrow.Author.Tests.{ltb-true, eqb-true}
+use borrow.Author.Tests.{ltb-true, eqb-true, lt-ltb, eq-eqb}
 use Rattle.lists.specs.Entries.{◌∈◌, some, every, from}
 use Rattle.lists.specs.Listed.{listed}
-use Rattle.lists.proofs.Bools.{or_either}
-use Rattle.lists.proofs.Tests.{some_append, every_at, map_on}
+use Rattle.lists.proofs.Bools.{or_either, or_later, and_make}
+use Rattle.lists.proofs.Tests.{some_append, every_append, every_at, every_yes, map_on}
 use Rattle.lists.proofs.Joined.{in_from}
-use Rattle.lists.proofs.Listed.{listed_none, listed_at, in_listed, is_listed}
+use Rattle.lists.proofs.Listed.{listed_none, listed_more, listed_at, in_listed, is_listed}
 use Rattle.lists.proofs.Order.{at_in}
 use Rattle.rule.specs.Net.{open_pin, at_pin}
 use Rattle.rule.proofs.Nets.{at_open, at_net, not_open}
@@ -36,6 +36,9 @@ module _ {A B : Type 0} (f : A → B) (xs : List A) (i : ℕ) (d : A) (l : i < l
   some_entry test =
       ap (some test) map_entry ∙ some_append test (map f (take i xs)) (f (get_or xs i d) ∷ [])
       ∙ ap (λ b. some test (map f (take i xs)) || b) (or-false (test (f (get_or xs i d))))
+
+pub every_more : {A : Type 0} (test : A → Bool) (f : ℕ → A) (j : ℕ) → every test (listed f j) ≡ true → test (f j) ≡ true → every test (listed f (j + 1)) ≡ true
+every_more test f j h e = ap (every test) (listed_more f j) ∙ every_append test (listed f j) (f j ∷ []) ∙ and_make _ _ h (rw e)
 
 -- its first entries, as a list by place
 pub front_listed : (xs : List ℕ) (i : ℕ) → i ≤ length xs → take i xs ≡ listed (λ k. get_or xs k 0) i
@@ -64,6 +67,13 @@ part_listed xs a n k e l =
 
 pub fits_named : (n p : ℕ) → pin_fits n p ≡ true → (p < n) ⊎ (p ≡ open_pin)
 fits_named n p e = ⊎_elim (λ a. inl (ltb-true p n a)) (λ b. inr (eqb-true p open_pin b)) (or_either (ltb p n) (eqb p open_pin) e)
+
+pub named_fits : (n p : ℕ) → (p < n) ⊎ (p ≡ open_pin) → pin_fits n p ≡ true
+named_fits n p (inl l) = rw (lt-ltb p n l)
+named_fits n p (inr e) = or_later (ltb p n) _ (eq-eqb p open_pin e)
+
+pub all_fitting : (counts places : List ℕ) (n : ℕ) → Fitting counts places n → all_fit counts places n ≡ true
+all_fitting counts places n named = every_yes _ (from 0 n) (λ g m. every_yes (pin_fits n) (pins_at counts places g) (λ p i. named_fits n p (named g p i)))
 
 pub no_pins : (counts places : List ℕ) (n g : ℕ) → Wires counts places n → n ≤ g → pins_at counts places g ≡ []
 no_pins counts places n g w l = rw (w.past g l) (listed_none _)

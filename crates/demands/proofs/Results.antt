@@ -73,52 +73,52 @@ module _ {M : Type 1} {𝓤 : Ura M} (𝓛 : Logic 𝓤) (mem : Memory → SProp
   Promises T contract claim = (κs : Lfts T.signature.lifetimes) (a : Args T.signature κs)
       → let c = contract κs a in (g : c.ghost) (r : Res T.signature κs) (e : AtExit T κs) → c.ensures g r e ≡ fact 𝓤 (claim κs a r e)
 
-  pub load_promises : Promises load_fn.ended (load_fn.clauses 𝓛 mem run) (λ κs a r e. Promised a.0 (load a.1.0.now) r)
+  pub load_promises : Promises load_fn.ended (load_fn.clauses 𝓛 mem run) (λ κs a r e. Promised a.0.now (load a.1.0.now) (record { answer = r; session = e.0.now }))
   load_promises κs a g r e = refl
 
-  pub rest_promises : Promises rest_fn.ended (rest_fn.clauses 𝓛 mem run) (λ κs a r e. Promised a.0 (rest a.1.0.now) r)
+  pub rest_promises : Promises rest_fn.ended (rest_fn.clauses 𝓛 mem run) (λ κs a r e. Promised a.0.now (rest a.1.0.now) (record { answer = r; session = e.0.now }))
   rest_promises κs a g r e = refl
 
-  pub vector_promises : Promises vector_fn.ended (vector_fn.clauses 𝓛 mem run) (λ κs a r e. Promised a.0 (vector Fields a.1.0.now) r)
+  pub vector_promises : Promises vector_fn.ended (vector_fn.clauses 𝓛 mem run) (λ κs a r e. Promised a.0.now (vector Fields a.1.0.now) (record { answer = r; session = e.0.now }))
   vector_promises κs a g r e = refl
 
-  pub steps_promises : Promises steps_fn.ended (steps_fn.clauses 𝓛 mem run) (λ κs a r e. Promised a.0 (vector Steps a.1.0.now) r)
+  pub steps_promises : Promises steps_fn.ended (steps_fn.clauses 𝓛 mem run) (λ κs a r e. Promised a.0.now (vector Steps a.1.0.now) (record { answer = r; session = e.0.now }))
   steps_promises κs a g r e = refl
 
-  pub history_promises : Promises history_fn.ended (history_fn.clauses 𝓛 mem run) (λ κs a r e. Promised a.0 (history a.1.0.now a.1.1.0.now a.1.1.1.0.now)
+  pub history_promises : Promises history_fn.ended (history_fn.clauses 𝓛 mem run) (λ κs a r e. Promised a.0.now (history a.1.0.now a.1.1.0.now a.1.1.1.0.now)
       (record { answer = r; words = e.1.0.now; befores = e.1.1.0.now; flags = e.1.1.1.0.now }))
   history_promises κs a g r e = refl
 
-  pub list_promises : Promises list_fn.ended (list_fn.clauses 𝓛 mem run) (λ κs a r e. Promised a.0 (list a.1.0.now a.1.1.0.now) (record { answer = r; nets = e.1.0.now; times = e.1.1.0.now }))
+  pub list_promises : Promises list_fn.ended (list_fn.clauses 𝓛 mem run) (λ κs a r e. Promised a.0.now (list a.1.0.now a.1.1.0.now) (record { answer = r; nets = e.1.0.now; times = e.1.1.0.now }))
   list_promises κs a g r e = refl
 
-  pub records_promises : Promises records_fn.ended (records_fn.clauses 𝓛 mem run) (λ κs a r e. Promised a.0 (records a.1.0.now) (record { answer = r; room = e.1.0.now }))
+  pub records_promises : Promises records_fn.ended (records_fn.clauses 𝓛 mem run) (λ κs a r e. Promised a.0.now (records a.1.0.now) (record { answer = r; room = e.1.0.now }))
   records_promises κs a g r e = refl
 
-  pub ask_promises : Promises ask_fn.ended (ask_fn.clauses 𝓛 mem run) (λ κs a r e. Promised a.0 (ask a.1.0) r)
+  pub ask_promises : Promises ask_fn.ended (ask_fn.clauses 𝓛 mem run) (λ κs a r e. Promised a.0.now (ask a.1.0) r)
   ask_promises κs a g r e = refl
 
-  pub trace_promises : Promises trace_fn.ended (trace_fn.clauses 𝓛 mem run) (λ κs a r e. Promised a.0 (trace a.1.0 a.1.1.0 a.1.1.1.0.now) (record { answer = r; room = e.1.1.1.0.now }))
+  pub trace_promises : Promises trace_fn.ended (trace_fn.clauses 𝓛 mem run) (λ κs a r e. Promised a.0.now (trace a.1.0 a.1.1.0 a.1.1.1.0.now) (record { answer = r; room = e.1.1.1.0.now }))
   trace_promises κs a g r e = refl
 
-  pub bench_promises : Promises bench_fn.ended (bench_fn.clauses 𝓛 mem run) (λ κs a r e. Promised a.0 (bench a.1.0.now a.1.1.0.now a.1.1.1.0 a.1.1.1.1.0.now)
-      (record { moved = r; room = e.1.1.1.1.0.now }))
+  pub bench_promises : Promises bench_fn.ended (bench_fn.clauses 𝓛 mem run) (λ κs a r e. Promised a.0.now (bench a.1.0.now a.1.1.0.now a.1.1.1.0 a.1.1.1.1.0.now)
+      (record { moved = record { answer = r; session = e.0.now }; room = e.1.1.1.1.0.now }))
   bench_promises κs a g r e = refl
 
   -- the empty session, what is asked of a card as a whole, and the operations that move a session under one name
   pub empty_promises : Promises empty_fn.ended (empty_fn.clauses 𝓛 mem run) (λ κs a r e. r ≡ none)
   empty_promises κs a g r e = refl
 
-  pub depth_promises : Promises depth_fn.ended (depth_fn.clauses 𝓛 mem run) (λ κs a r e. r ≡ depth_asked a.0)
+  pub depth_promises : Promises depth_fn.ended (depth_fn.clauses 𝓛 mem run) (λ κs a r e. r ≡ depth_asked a.0.now)
   depth_promises κs a g r e = refl
 
-  pub count_promises : Promises count_fn.ended (count_fn.clauses 𝓛 mem run) (λ κs a r e. r ≡ steps_asked a.0)
+  pub count_promises : Promises count_fn.ended (count_fn.clauses 𝓛 mem run) (λ κs a r e. r ≡ steps_asked a.0.now)
   count_promises κs a g r e = refl
 
-  pub by_promises : Promises by_fn.ended (by_fn.clauses 𝓛 mem run) (λ κs a r e. r ≡ vector_by a.0 a.1.0 a.1.1.0.now)
+  pub by_promises : Promises by_fn.ended (by_fn.clauses 𝓛 mem run) (λ κs a r e. record { answer = r; session = e.1.0.now } ≡ vector_by a.0 a.1.0.now a.1.1.0.now)
   by_promises κs a g r e = refl
 
-  pub operate_promises : Promises operate_fn.ended (operate_fn.clauses 𝓛 mem run) (λ κs a r e. r ≡ operated a.0 a.1.0 a.1.1.0.now)
+  pub operate_promises : Promises operate_fn.ended (operate_fn.clauses 𝓛 mem run) (λ κs a r e. record { answer = r; session = e.1.0.now } ≡ operated a.0 a.1.0.now a.1.1.0.now)
   operate_promises κs a g r e = refl
 
   -- a sheet: where it begins, and whether more is to come
@@ -170,19 +170,19 @@ module _ {M : Type 1} {𝓤 : Ura M} (𝓛 : Logic 𝓤) (mem : Memory → SProp
   pub record AsksNothing : Type 2 where
     pub empty : AsksNone empty_fn.ended (empty_fn.clauses 𝓛 mem run)
     pub load : AsksNone load_fn.ended (load_fn.clauses 𝓛 mem run)
-    pub rest : Asks rest_fn.ended (rest_fn.clauses 𝓛 mem run) (λ κs a. Good a.0)
-    pub vector : Asks vector_fn.ended (vector_fn.clauses 𝓛 mem run) (λ κs a. Good a.0)
-    pub steps : Asks steps_fn.ended (steps_fn.clauses 𝓛 mem run) (λ κs a. Good a.0)
-    pub vector_by_lem : Asks by_fn.ended (by_fn.clauses 𝓛 mem run) (λ κs a. Good a.1.0)
-    pub operate : Asks operate_fn.ended (operate_fn.clauses 𝓛 mem run) (λ κs a. Good a.1.0)
-    pub history : Asks history_fn.ended (history_fn.clauses 𝓛 mem run) (λ κs a. Good a.0)
-    pub list : Asks list_fn.ended (list_fn.clauses 𝓛 mem run) (λ κs a. Good a.0)
-    pub records : Asks records_fn.ended (records_fn.clauses 𝓛 mem run) (λ κs a. Good a.0)
-    pub ask : Asks ask_fn.ended (ask_fn.clauses 𝓛 mem run) (λ κs a. Carded a.0)
-    pub depth : Asks depth_fn.ended (depth_fn.clauses 𝓛 mem run) (λ κs a. Carded a.0)
-    pub step_count : Asks count_fn.ended (count_fn.clauses 𝓛 mem run) (λ κs a. Carded a.0)
-    pub trace : Asks trace_fn.ended (trace_fn.clauses 𝓛 mem run) (λ κs a. Good a.0)
-    pub bench : Asks bench_fn.ended (bench_fn.clauses 𝓛 mem run) (λ κs a. Good a.0)
+    pub rest : Asks rest_fn.ended (rest_fn.clauses 𝓛 mem run) (λ κs a. Good a.0.now)
+    pub vector : Asks vector_fn.ended (vector_fn.clauses 𝓛 mem run) (λ κs a. Good a.0.now)
+    pub steps : Asks steps_fn.ended (steps_fn.clauses 𝓛 mem run) (λ κs a. Good a.0.now)
+    pub vector_by_lem : Asks by_fn.ended (by_fn.clauses 𝓛 mem run) (λ κs a. Good a.1.0.now)
+    pub operate : Asks operate_fn.ended (operate_fn.clauses 𝓛 mem run) (λ κs a. Good a.1.0.now)
+    pub history : Asks history_fn.ended (history_fn.clauses 𝓛 mem run) (λ κs a. Good a.0.now)
+    pub list : Asks list_fn.ended (list_fn.clauses 𝓛 mem run) (λ κs a. Good a.0.now)
+    pub records : Asks records_fn.ended (records_fn.clauses 𝓛 mem run) (λ κs a. Good a.0.now)
+    pub ask : Asks ask_fn.ended (ask_fn.clauses 𝓛 mem run) (λ κs a. Carded a.0.now)
+    pub depth : Asks depth_fn.ended (depth_fn.clauses 𝓛 mem run) (λ κs a. Carded a.0.now)
+    pub step_count : Asks count_fn.ended (count_fn.clauses 𝓛 mem run) (λ κs a. Carded a.0.now)
+    pub trace : Asks trace_fn.ended (trace_fn.clauses 𝓛 mem run) (λ κs a. Good a.0.now)
+    pub bench : Asks bench_fn.ended (bench_fn.clauses 𝓛 mem run) (λ κs a. Good a.0.now)
     pub begin : AsksNone begin_fn.ended (begin_fn.clauses 𝓛 mem run)
     pub next : Asks next_fn.ended (next_fn.clauses 𝓛 mem run) (λ κs a. Standing a.0)
     pub is_over_lem : AsksNone over_fn.ended (over_fn.clauses 𝓛 mem run)

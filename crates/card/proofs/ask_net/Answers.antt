@@ -5,7 +5,7 @@ use Prim.Native.Nat.{◌<◌}
 use native.Mathlib.Omega.{arith}
 use lib.ListN.{get_or}
 use borrow.Author.Rules.{rules}
-use Rattle.card.proofs.Kept.{card_wires, card_fitting, card_fits, nets_are, asked_none, asked_past, asked_here}
+use Rattle.card.proofs.Kept.{card_fits, nets_are, asked_none, asked_past, asked_here}
 use Rattle.card.proofs.ask_net.Goals as goal
 use Rattle.card.proofs.ask_net.Goals.{After-gates_back-levels}
 
@@ -23,10 +23,8 @@ returns-then-not-s c = asked_none c.args.s.now c.args.n (c.if-not-s.true)
 pub returns-then-s-n : goal.returns-then-s-n
 returns-then-s-n c = asked_past c.args.s.now c.args.n (c.if-not-s.false) c.if-s-n.true
 
-pub gates_back-levels-requires : goal.gates_back-levels-requires
-gates_back-levels-requires c =
-    let h = c.requires (c.if-not-s.false) in
-    record { wires = card_wires c.args.s.now h; fitting = card_fitting c.args.s.now h }
+pub wiring-requires : goal.wiring-requires
+wiring-requires c = c.requires (c.if-not-s.false)
 
 pub offset_bounds-levels-at : goal.offset_bounds-levels-at
 offset_bounds-levels-at c = let l = placed (goal.at.offset_bounds-levels-at c).After-gates_back-levels in search rules
@@ -42,5 +40,7 @@ bounds-s-at c = placed (goal.at.bounds-s-at c).After-gates_back-levels
 
 pub returns : goal.returns
 returns c =
+    let s = c.args.s.now in
     let loaded = c.if-not-s.false in
-    asked_here c.args.s.now (c.requires loaded) c.args.n _ _ loaded (omega arith) (ap (λ xs. get_or xs c.args.n 0) c.gates_back-levels.ensures) refl
+    let e = c.wiring.ensures in
+    asked_here s (c.requires loaded) c.args.n _ _ loaded (omega arith) (ap (λ xs. get_or xs c.args.n 0) (rw (e.0, e.1, e.2) at c.gates_back-levels.ensures)) refl

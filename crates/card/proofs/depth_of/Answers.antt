@@ -1,11 +1,12 @@
 -- `card::depth_of` meets its contract: the levels worked out from the wiring are the card's. Assumes nothing.
 use mathlib.Core.Path.{◌≡◌, ap, ◌∙◌}
 use mathlib.Core.Bool.{true}
+use Prim.Native.Nat.{◌+◌}
 use borrow.Author.Tests.{not-true}
-use Rattle.card_wiring.specs.Inner.Wires.{highest}
+use Rattle.card_wiring.specs.Inner.Wires.{delay_at, backs, highest}
 use Rattle.card.specs.Held.{HasCard}
 use Rattle.card.specs.Asked.{depth_asked}
-use Rattle.card.proofs.Kept.{few, card_wires, card_fitting, depth_is}
+use Rattle.card.proofs.Kept.{few, depth_is}
 use Rattle.card.proofs.depth_of.Goals as goal
 use Rattle.card.proofs.depth_of.Goals.{Else-not-s}
 
@@ -20,10 +21,8 @@ pub returns-then-not-s : goal.returns-then-not-s
 unfolding depth_asked
 returns-then-not-s c = rw (not-true c.args.s.now.loaded c.if-not-s.true-raw)
 
-pub gates_back-levels-requires : goal.gates_back-levels-requires
-gates_back-levels-requires c =
-    let s = c.args.s.now in
-    record { wires = card_wires s (card (goal.at.gates_back-levels-requires c).Else-not-s); fitting = card_fitting s (card (goal.at.gates_back-levels-requires c).Else-not-s) }
+pub wiring-requires : goal.wiring-requires
+wiring-requires c = card (goal.at.wiring-requires c).Else-not-s
 
 pub highest_of-requires : goal.highest_of-requires
 highest_of-requires c = few c.args.s.now (card (goal.at.highest_of-requires c).Else-not-s)
@@ -32,4 +31,6 @@ pub returns : goal.returns
 unfolding depth_asked
 returns c =
     let s = c.args.s.now in
-    c.highest_of.ensures ∙ ap (λ xs. highest xs s.nets) c.gates_back-levels.ensures ∙ depth_is s (card (goal.at.returns c).Else-not-s) ∙ rw (loaded (goal.at.returns c).Else-not-s)
+    let e = c.wiring.ensures in
+    let levels : c.gates_back-levels.result ≡ backs delay_at s.counts s.places (s.nets + 1) = rw (e.0, e.1, e.2) at c.gates_back-levels.ensures in
+    c.highest_of.ensures ∙ ap (λ xs. highest xs s.nets) levels ∙ depth_is s (card (goal.at.returns c).Else-not-s) ∙ rw (loaded (goal.at.returns c).Else-not-s)
