@@ -47,8 +47,19 @@ def bare(text):
     return found + text[at:]
 
 
+def blocks(text):
+    """The blocks of impls and traits of a file: where each begins and ends, its name and its text. Of `impl<T> Trait for Type` the name is `Trait for Type`."""
+    found = []
+    for head in re.finditer(r"^(?:pub )?(impl|trait)\b([^{;]*)\{", text, flags=re.M):
+        end = text.index("\n}", head.end() - 1)
+        name = re.sub(r"^<[^<>]*>" if head.group(1) == "impl" else r":.*", "", " ".join(head.group(2).split())).strip()
+        found.append((head.start(), end, name, text[head.end() : end]))
+    return found
+
+
 def functions(crate):
-    """The functions of a crate: the clauses of `requires` of each, what it calls by name, what it calls as a method, whether it is one, and whether it has an `ensures`."""
+    """The functions of a crate: the clauses of `requires` of each, what it calls by name, what it calls as a method, whether it is one, and whether something is promised of it.
+    That is an `ensures` of its own, or, in the impl of a trait, the impl's ghost member about it, as `ghost from_gives` is about `from`, or an `ensures` of the trait."""
     found = {}
     for file in sorted((crates / crate / "src").glob("**/*.rt")):
         text = re.sub(r"//.*", "", file.read_text(encoding="utf-8"))
@@ -58,17 +69,30 @@ def functions(crate):
             asks = len(re.findall(r"^ *requires (?:\w+ )?\{", part, flags=re.M))
             body = bare(part)
             calls = {(c or crate, n) for c, n in re.findall(r"(?<![.\w:])(?:([a-z_]+)::)?([a-z_0-9]+)\(", body)}
-            methods = set(re.findall(r"(?:\.|\b[A-Z]\w*::)([a-z_0-9]+)\(", body))
-            found[head.group(2)] = (asks, calls, methods, bool(head.group(1)), bool(re.search(r"^ *ensures (?:\w+ )?\{", part, flags=re.M)))
+            methods = set(re.findall(r"(?:\.|\b(?:[A-Z]\w*|[ui][0-9]+|usize)::)([a-z_0-9]+)\(", body)) | ({"from"} if "?" in body else set())
+            name = head.group(2)
+            promised = bool(re.search(r"^ *ensures (?:\w+ )?\{", part, flags=re.M))
+            for start, end, block, inside in blocks(text):
+                if start < head.start() < end:
+                    name = f"{block}::{name}"
+                    if " for " in block:
+                        by_trait = re.sub(r"<.*", "", block.split(" for ")[0]) + "::" + head.group(2)
+                        promised |= bool(re.search(rf"^ *ghost {head.group(2)}_gives = ", inside, flags=re.M)) or by_trait in traits
+            found[name] = (asks, calls, methods, bool(head.group(1)), promised)
     return found
 
 
 listed = [line.split(":")[0].split()[0] for line in (root / "crates.txt").read_text().splitlines() if line and not line.startswith("#")]
+traits = set()  # the functions of our traits of which the trait promises something
+for crate in listed:
+    for file in sorted((crates / crate / "src").glob("**/*.rt")):
+        for _, _, block, inside in blocks(re.sub(r"//.*", "", file.read_text(encoding="utf-8"))):
+            traits |= {f"{block}::{name}" for name in re.findall(r"^ *fn (\w+)[^;{]*?\n *ensures (?:\w+ )?\{", inside, flags=re.M) if " for " not in block}
 known = {(crate, name): function for crate in listed for name, function in functions(crate).items()}
 of_method = {}
 for key in known:
     if known[key][3]:
-        of_method.setdefault(key[1], []).append(key)
+        of_method.setdefault(key[1].split("::")[-1], []).append(key)
 reached, waiting = set(), [key for key in known if key[1] == "main" or key[1].startswith("krasvome_")]
 roots = list(waiting)
 while waiting:
@@ -108,7 +132,7 @@ for crate in listed:
             faults.append(f"{crate}/specs has a folder, {file.parent.name}")
         for line in file.read_text(encoding="utf-8").splitlines():
             other = re.match(r"(?:(?:pub|abbrev|unfoldable) )?([^\s:]+) : ", line) or re.match(r" *(?:abbrev|unfoldable|data|record) (?!pub )([^\s:]+) .*:", line)
-            if other and not re.match(r" *(?:abbrev pub|unfoldable pub|pub data|pub record|module|--|infix)", line):
+            if other and not re.match(r" *(?:abbrev pub|unfoldable pub|pub data|pub record|module|--|infix)|pub [\w-]+-prop : .* → IsProp ", line):
                 faults.append(f"{crate}/specs/{place} defines {other.group(1)} in another way")
         for name in re.findall(r"^ *(?:abbrev pub|unfoldable pub|pub data|pub record) ([^\s:]+)", file.read_text(encoding="utf-8"), flags=re.M):
             defined.setdefault((crate, name), set()).add(place)
@@ -215,6 +239,8 @@ for place in ("crates", "host", "tests", "speed", "examples"):
         elif file.is_dir():
             tokens.add(file.name)
 for document in ("README.md", *(f"docs/{file.name}" for file in sorted((root / "docs").glob("*.md")))):
+    if document in ("docs/PORT.md", "docs/DESIGN-PASS.md"):  # the first says what names were at the port, the second has what was beside what is: half of either is gone from the tree
+        continue
     text = re.sub(r"\s+", " ", (root / document).read_text(encoding="utf-8"))
     if document != "docs/REQUESTS.md":  # it names what is still to come
         for name in sorted({part for name in re.findall(r"`([A-Za-z_][\w-]*(?:::[a-z_]+)?)`", text) for part in name.split("::")} - tokens):

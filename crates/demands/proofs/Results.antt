@@ -125,12 +125,12 @@ module _ {M : Type 1} {𝓤 : Ura M} (𝓛 : Logic 𝓤) (mem : Memory → SProp
   pub begin_promises : Promises begin_fn.ended (begin_fn.clauses 𝓛 mem run) (λ κs a r e. (r ≡ fresh) × Standing r)
   begin_promises κs a g r e = refl
 
-  pub over_promises : Promises over_fn.ended (over_fn.clauses 𝓛 mem run) (λ κs a r e. r ≡ is_over a.0.stage)
+  pub over_promises : Promises over_fn.ended (over_fn.clauses 𝓛 mem run) (λ κs a r e. r ≡ is_over a.0.now.stage)
   over_promises κs a g r e = refl
 
   -- the next piece of a sheet: the piece and the page; and what it asks of a sheet is kept
   pub next_promises : Promises next_fn.ended (next_fn.clauses 𝓛 mem run) (λ κs a r e.
-      PieceAllowed a.0 a.1.0.now a.1.1.0.now (record { piece = r; page = e.1.1.0.now }) × Standing r.sheet × (r.length ≤ 20480))
+      PieceAllowed a.0.now a.1.0.now a.1.1.0.now (record { piece = record { sheet = e.0.now; length = r }; page = e.1.1.0.now }) × Standing e.0.now × (r ≤ 20480))
   next_promises κs a g r e = refl
 
   -- the host's calls: number and count, the session's bytes, and what else is lent
@@ -184,7 +184,7 @@ module _ {M : Type 1} {𝓤 : Ura M} (𝓛 : Logic 𝓤) (mem : Memory → SProp
     pub trace : Asks trace_fn.ended (trace_fn.clauses 𝓛 mem run) (λ κs a. Good a.0.now)
     pub bench : Asks bench_fn.ended (bench_fn.clauses 𝓛 mem run) (λ κs a. Good a.0.now)
     pub begin : AsksNone begin_fn.ended (begin_fn.clauses 𝓛 mem run)
-    pub next : Asks next_fn.ended (next_fn.clauses 𝓛 mem run) (λ κs a. Standing a.0)
+    pub next : Asks next_fn.ended (next_fn.clauses 𝓛 mem run) (λ κs a. Standing a.0.now)
     pub is_over_lem : AsksNone over_fn.ended (over_fn.clauses 𝓛 mem run)
     pub host_load : AsksNone host_load_fn.ended (host_load_fn.clauses 𝓛 mem run)
     pub host_rest : AsksNone host_rest_fn.ended (host_rest_fn.clauses 𝓛 mem run)

@@ -31,15 +31,14 @@ pub fn changes_of(word: u64, before: bool) -> u32
 pub fn flag_of(word: u64, before: bool) -> u8
     ensures { result ≡ flag_of before (bit word) }
 {
-    let count = changes_of(word, before);
-    if count == 0 {
-        return 0;
+    match changes_of(word, before) {
+        0 => 0,
+        1 => 1,
+        _ => {
+            let w = PcSet { word };
+            if before == w.has(63) { 2 } else { 3 }
+        }
     }
-    if count == 1 {
-        return 1;
-    }
-    let w = PcSet { word };
-    if before == w.has(63) { 2 } else { 3 }
 }
 
 // The words of the first n nets, at the front of lent room.

@@ -18,7 +18,7 @@ use Rattle.rule.specs.Numbers.{number_of}
 use Rattle.rule.specs.declared.Refusal.{Refusal}
 use Rattle.rule.specs.declared.Refusal.TheVariants.{NoRoom}
 use Rattle.rule.specs.Answers.{Answer}
-use Rattle.std.specs.Prelude.{Ok, Err}
+use Rattle.std.specs.Prelude.{Some, None, Ok, Err}
 use Rattle.rule.proofs.Numbers.{number_low}
 use Rattle.card_records.specs.Written.{Bytes}
 use Rattle.card.specs.declared.Session.{Session}
@@ -32,14 +32,13 @@ use Rattle.session.specs.Moves.{rest_of, vector_of}
 use Rattle.session.proofs.Kept.{vector_good, vector_rests}
 use Rattle.history.proofs.Ran.{holds}
 use Rattle.text.specs.Text.{named}
-use Rattle.sheet_text.specs.declared.Entry.{Entry}
-use Rattle.sheet_text.specs.declared.Entry.TheVariants.{Nothing, Bad, Rest, Vector}
+use Rattle.sheet_text.specs.declared.Entry.TheVariants.{Rest, Vector}
 use Rattle.sheet_pieces.specs.declared.Stage.{Stage}
 use Rattle.sheet_pieces.specs.declared.Stage.TheVariants.{Fresh, Going, Over}
 use Rattle.sheet_pieces.specs.declared.Sheet.{Sheet}
-use Rattle.sheet_pieces.specs.declared.Piece.{Piece}
+use Rattle.sheet_pieces.specs.Piece.{Piece}
 use Rattle.sheet_text.specs.Lines.{blank, lf, depth_word, steps_word, vector_word, refused_line, first_line, history_line, card_text, vector_text}
-use Rattle.sheet_text.specs.Walk.{card_end, entry_at, body}
+use Rattle.sheet_text.specs.Walk.{card_end, Found, entry_at, body}
 use Rattle.sheet_pieces.specs.Pieces.{Portion, refused_piece, piece_unless, loaded_piece, card_piece, entry_piece, piece_at, piece_of, Written, written, Standing}
 use Rattle.sheet_text.proofs.Lengths.{byte_short, word_short, line_short}
 use Rattle.sheet_pieces.proofs.Steps.{bytes_front}
@@ -118,11 +117,11 @@ module _ (file : List ℕ) (bytes : Bytes file) (size : length file < 2 ^ 64) wh
           unless_short loaded.answer sheet _
           (λ k e. card_short loaded.session (load_holds none (take (card_end file) file) (bytes_front (card_end file) file bytes) loaded refl k e))
 
-      entry : sheet.stage ≡ Going → (e : Entry) → Placed (length file) sheet.at e → length (entry_piece sheet file e).text ≤ 20480
-      entry q Nothing p = omega arith
-      entry q (Bad why) p = refused_short why
-      entry q (Rest next) p = unless_short (rest_of sheet.session (body file sheet.at next)).answer sheet _ (λ k e. omega arith)
-      entry q (Vector next) p =
+      entry : sheet.stage ≡ Going → (e : Found) → Placed (length file) sheet.at e → length (entry_piece sheet file e).text ≤ 20480
+      entry q (Ok None) p = omega arith
+      entry q (Err why) p = refused_short why
+      entry q (Ok (Some (Rest next))) p = unless_short (rest_of sheet.session (body file sheet.at next)).answer sheet _ (λ k e. omega arith)
+      entry q (Ok (Some (Vector next))) p =
           let v = body file sheet.at next in
           let m = vector_of sheet.session v in
           unless_short m.answer sheet _

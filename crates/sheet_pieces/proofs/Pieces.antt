@@ -10,20 +10,19 @@ use Rattle.rule.specs.Level.{depth}
 use Rattle.rule.specs.declared.Refusal.{Refusal}
 use Rattle.rule.specs.declared.Refusal.TheVariants.{NoRoom}
 use Rattle.rule.specs.Answers.{Answer}
-use Rattle.std.specs.Prelude.{Ok, Err}
+use Rattle.std.specs.Prelude.{Some, None, Ok, Err}
 use Rattle.card_records.specs.Written.{Bytes}
 use Rattle.card.specs.declared.Session.{Session}
 use Rattle.card.specs.Loaded.{Loaded}
 use Rattle.card.specs.Session.{none, card_of}
 use Rattle.card.specs.Load.{load_of}
 use Rattle.session.specs.Moves.{rest_of, vector_of}
-use Rattle.sheet_text.specs.declared.Entry.{Entry}
-use Rattle.sheet_text.specs.declared.Entry.TheVariants.{Nothing, Bad, Rest, Vector}
+use Rattle.sheet_text.specs.declared.Entry.TheVariants.{Rest, Vector}
 use Rattle.sheet_pieces.specs.declared.Stage.{Stage}
 use Rattle.sheet_pieces.specs.declared.Stage.TheVariants.{Fresh, Going, Over}
 use Rattle.sheet_pieces.specs.declared.Sheet.{Sheet}
 use Rattle.sheet_text.specs.Lines.{card_text, vector_text}
-use Rattle.sheet_text.specs.Walk.{card_end, entry_at, body}
+use Rattle.sheet_text.specs.Walk.{card_end, Found, entry_at, body}
 use Rattle.sheet_text.specs.Sheet.{unless_refused, entry_text, records_text, loaded_text, sheet_of}
 use Rattle.sheet_pieces.specs.Pieces.{fresh, ended, Portion, refused_piece, piece_unless, loaded_piece, card_piece, entry_piece, piece_at, piece_of, written, texts, wrote, after_pieces, Standing}
 use Rattle.sheet_pieces.proofs.Left.{left_at, left}
@@ -60,14 +59,14 @@ module _ (file : List ℕ) where
       fuel file at s vectors
 
   entry_said : (n fuel : ℕ) → Follows n fuel → (s : Session) (depth at vectors : ℕ) → length file ≤ at + suc n → length file ≤ at + suc fuel
-      → (e : Entry) → Placed (length file) at e
+      → (e : Found) → Placed (length file) at e
       → said n (entry_piece (going s depth at vectors) file e) ≡ entry_text file at s vectors e (records_text fuel file)
-  entry_said n fuel h s depth at vectors l m Nothing p = over_silent n (ended (going s depth at vectors)) refl
-  entry_said n fuel h s depth at vectors l m (Bad why) p = refused_ends n (going s depth at vectors) why
-  entry_said n fuel h s depth at vectors l m (Rest next) p =
+  entry_said n fuel h s depth at vectors l m (Ok None) p = over_silent n (ended (going s depth at vectors)) refl
+  entry_said n fuel h s depth at vectors l m (Err why) p = refused_ends n (going s depth at vectors) why
+  entry_said n fuel h s depth at vectors l m (Ok (Some (Rest next))) p =
       let r = rest_of s (body file at next) in
       answered n r.answer (going s depth at vectors) _ _ (h r.session depth next vectors (omega (arith, p.0)) (omega (arith, p.0)))
-  entry_said n fuel h s depth at vectors l m (Vector next) p =
+  entry_said n fuel h s depth at vectors l m (Ok (Some (Vector next))) p =
       let r = vector_of s (body file at next) in
       answered n r.answer (going s depth at vectors) _ _
       (ap (λ xs. vector_text (vectors + 1) r.session ++ xs) (h r.session depth next (vectors + 1) (omega (arith, p.0)) (omega (arith, p.0))))

@@ -10,7 +10,7 @@ use borrow.Author.Tests.{ltb-false, le-leb}
 use Rattle.rule.specs.Level.{depth}
 use Rattle.rule.specs.declared.Refusal.TheVariants.{CutShort, BadRecord, NoRoom}
 use Rattle.rule.specs.Answers.{Answer}
-use Rattle.std.specs.Prelude.{Ok, Err}
+use Rattle.std.specs.Prelude.{Some, None, Ok, Err}
 use Rattle.card_records.specs.Bytes.{u16_at}
 use Rattle.card_records.specs.Written.{Bytes}
 use Rattle.card.specs.declared.Session.{Session}
@@ -20,22 +20,21 @@ use Rattle.card.specs.Load.{load_of}
 use Rattle.session.specs.Good.{Good}
 use Rattle.session.specs.Moves.{rest_of, vector_of}
 use Rattle.session.proofs.Kept.{none_good, load_good, rest_good, vector_good, rest_card, vector_card}
-use Rattle.sheet_text.specs.declared.Entry.{Entry}
-use Rattle.sheet_text.specs.declared.Entry.TheVariants.{Nothing, Bad, Rest, Vector}
+use Rattle.sheet_text.specs.declared.Entry.TheVariants.{Rest, Vector}
 use Rattle.sheet_pieces.specs.declared.Stage.{Stage}
 use Rattle.sheet_pieces.specs.declared.Stage.TheVariants.{Fresh, Going, Over}
 use Rattle.sheet_pieces.specs.declared.Sheet.{Sheet}
-use Rattle.sheet_text.specs.Walk.{card_end, entry_in, entry_at, body}
+use Rattle.sheet_text.specs.Walk.{card_end, Found, entry_in, entry_at, body}
 use Rattle.sheet_pieces.specs.Pieces.{fresh, ended, moved_sheet, Portion, refused_piece, piece_unless, loaded_piece, card_piece, entry_piece, piece_at, piece_of, Standing, is_over}
 use Rattle.sheet_pieces.proofs.Left.{left_at, left}
 use Rattle.sheet_pieces.proofs.Steps.{bytes_front}
 
 -- a rest or a vector is whole: it ends after its head, and inside the file
-abbrev pub Placed : ℕ → ℕ → Entry → Type 0
-Placed n at Nothing = Unit {0}
-Placed n at (Bad why) = Unit {0}
-Placed n at (Rest next) = (at + 4 ≤ next) × (next ≤ n)
-Placed n at (Vector next) = (at + 4 ≤ next) × (next ≤ n)
+abbrev pub Placed : ℕ → ℕ → Found → Type 0
+Placed n at (Ok None) = Unit {0}
+Placed n at (Err why) = Unit {0}
+Placed n at (Ok (Some (Rest next))) = (at + 4 ≤ next) × (next ≤ n)
+Placed n at (Ok (Some (Vector next))) = (at + 4 ≤ next) × (next ≤ n)
 
 pub entry_placed : (file : List ℕ) (at : ℕ) → Placed (length file) at (entry_at file at)
 unfolding entry_at entry_in
@@ -52,8 +51,8 @@ entry_placed file at = go (leb n at) (ltb n (at + 4)) (eqb kind 5) (eqb kind 6) 
 
     go : (a b c d e : Bool) → (e ≡ false → (at + 4 ≤ next) × (next ≤ n))
         → Placed n at
-        (cond a Nothing
-        (cond b (Bad CutShort) (cond c (cond e (Bad CutShort) (Rest next)) (cond d (cond e (Bad CutShort) (Vector next)) (Bad BadRecord)))))
+        (cond a (Ok None)
+        (cond b (Err CutShort) (cond c (cond e (Err CutShort) (Ok (Some (Rest next)))) (cond d (cond e (Err CutShort) (Ok (Some (Vector next)))) (Err BadRecord)))))
     go true b c d e h = tt
     go false true c d e h = tt
     go false false true d true h = tt
@@ -63,7 +62,7 @@ entry_placed file at = go (leb n at) (ltb n (at + 4)) (eqb kind 5) (eqb kind 6) 
     go false false false false e h = tt
 
 -- past its end the file has nothing
-pub entry_past : (file : List ℕ) (at : ℕ) → length file ≤ at → entry_at file at ≡ Nothing
+pub entry_past : (file : List ℕ) (at : ℕ) → length file ≤ at → entry_at file at ≡ (Ok None)
 unfolding entry_at entry_in
 entry_past file at l = rw (le-leb (length file) at l)
 
@@ -109,15 +108,15 @@ module _ (file : List ℕ) (bytes : Bytes file) where
             counted = λ e. omega arith;
           })
 
-  entry_stands : (sheet : Sheet) → Standing sheet → sheet.stage ≡ Going → (e : Entry) → Placed (length file) sheet.at e
+  entry_stands : (sheet : Sheet) → Standing sheet → sheet.stage ≡ Going → (e : Found) → Placed (length file) sheet.at e
       → Standing (entry_piece sheet file e).after
-  entry_stands sheet s q Nothing p = over_stands sheet s.good
-  entry_stands sheet s q (Bad why) p = over_stands sheet s.good
-  entry_stands sheet s q (Rest next) p =
+  entry_stands sheet s q (Ok None) p = over_stands sheet s.good
+  entry_stands sheet s q (Err why) p = over_stands sheet s.good
+  entry_stands sheet s q (Ok (Some (Rest next))) p =
       let v = body file sheet.at next in
       unless_stands (rest_of sheet.session v).answer sheet _ s.good
       (moved_stands sheet s q _ (rest_good sheet.session s.good v) (rest_card sheet.session v) next _ (omega (arith, s.counted q, p.0)))
-  entry_stands sheet s q (Vector next) p =
+  entry_stands sheet s q (Ok (Some (Vector next))) p =
       let v = body file sheet.at next in
       unless_stands (vector_of sheet.session v).answer sheet _ s.good
       (moved_stands sheet s q _ (vector_good sheet.session s.good v) (vector_card sheet.session v) next _ (omega (arith, s.counted q, p.0)))
@@ -154,12 +153,12 @@ module _ (file : List ℕ) where
       card true = omega arith
       card false = unless_left l.answer sheet _ (length file + 2) (omega arith) (omega arith)
 
-      entry : (e : Entry) → Placed (length file) sheet.at e → left (entry_piece sheet file e).after file < rest + 1
-      entry Nothing p = omega arith
-      entry (Bad why) p = omega arith
-      entry (Rest next) p =
+      entry : (e : Found) → Placed (length file) sheet.at e → left (entry_piece sheet file e).after file < rest + 1
+      entry (Ok None) p = omega arith
+      entry (Err why) p = omega arith
+      entry (Ok (Some (Rest next))) p =
           unless_left (rest_of sheet.session (body file sheet.at next)).answer sheet _ (rest + 1) (omega arith) (omega (arith, p.0, p.1))
-      entry (Vector next) p =
+      entry (Ok (Some (Vector next))) p =
           unless_left (vector_of sheet.session (body file sheet.at next)).answer sheet _ (rest + 1) (omega arith) (omega (arith, p.0, p.1))
 
       go : (x : Stage) → sheet.stage ≡ x → left (piece_at x sheet file).after file < left_at x (length file) rest

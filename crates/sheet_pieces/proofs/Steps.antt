@@ -1,5 +1,5 @@
 -- One step: what a piece hands back, by what the operation that it calls answers. Assumes nothing.
-use mathlib.Core.Path.{◌≡◌, sym, ap, ap₂, ◌∙◌}
+use mathlib.Core.Path.{◌≡◌, refl, sym, ap, ap₂, ◌∙◌, subst}
 use mathlib.Core.List.{List}
 use Prim.Native.Nat.{ℕ, ◌≤◌, ◌<◌}
 use native.Mathlib.Omega.{arith}
@@ -16,11 +16,14 @@ use Rattle.card.specs.declared.Session.{Session}
 use Rattle.card.specs.Loaded.{Loaded}
 use Rattle.card.specs.Session.{none}
 use Rattle.card.specs.Load.{load_of}
+use Rattle.session.specs.Moved.{Moved}
+use Rattle.sheet_text.specs.Lines.{refused_line}
+use Rattle.sheet_pieces.specs.Inner.Comes.{Comes}
 use Rattle.text.specs.Inner.Put.{Put}
 use Rattle.sheet_pieces.specs.declared.Sheet.{Sheet}
 use Rattle.sheet_pieces.specs.declared.Stage.{Stage}
 use Rattle.sheet_text.specs.Walk.{card_end}
-use Rattle.sheet_pieces.specs.Pieces.{Portion, Written, refused_piece, piece_unless, loaded_piece, card_piece, piece_at, piece_of, written}
+use Rattle.sheet_pieces.specs.Pieces.{ended, Portion, Written, refused_piece, piece_unless, loaded_piece, card_piece, piece_at, piece_of, written}
 
 -- a text put at the front of the page, and the sheet after it
 pub hand_back : (p : Portion) {sheet : Sheet} {old new : List ℕ} {n : ℕ} → sheet ≡ p.after → Put p.text old 0 new n
@@ -62,3 +65,27 @@ card_loads sheet file empty end l short en ee el =
 -- its bytes are bytes
 pub bytes_front : (n : ℕ) (s : List ℕ) → Bytes s → Bytes (take n s)
 bytes_front n s b = part_all (λ x. x < 256) (lit< tt) s b 0 n
+
+-- A step that a session's answer decides: a refusal leaves sheet and page as they were
+
+pub came_err : (sheet : Sheet) (m : Moved) (s : Session) (why : Refusal) (p : Portion) (page : List ℕ)
+    → ◌≡◌ {A = Moved} (record { answer = Err why; session = s }) m → m.session ≡ sheet.session
+    → Comes (piece_unless m.answer sheet p) sheet page (Err why)
+    (record { session = s; depth = sheet.depth; at = sheet.at; vectors = sheet.vectors; stage = sheet.stage }) page
+came_err sheet m s why p page e k = (
+  sym (refused_so m.answer sheet p why (sym (ap (λ x. x.answer) e))),
+  λ i. record { session = (ap (λ x. x.session) e ∙ k) i; depth = sheet.depth; at = sheet.at; vectors = sheet.vectors; stage = sheet.stage },
+  refl,
+)
+
+pub came_ok : (sheet after : Sheet) (m : Moved) (s : Session) (k n : ℕ) (p : Portion) (page new : List ℕ)
+    → ◌≡◌ {A = Moved} (record { answer = Ok k; session = s }) m → after ≡ p.after → Put p.text page 0 new n
+    → Comes (piece_unless m.answer sheet p) sheet page (Ok n) after new
+came_ok sheet after m s k n p page new e a q = hand_on page (done_so m.answer sheet p k (sym (ap (λ x. x.answer) e))) (hand_back p a q)
+
+-- a refusal with its line is the piece
+pub comes_refused : (p : Portion) (sheet : Sheet) (why : Refusal) (after ended_so : Sheet) (old mid new : List ℕ) (n : ℕ)
+    → Comes p sheet old (Err why) after mid → ended_so ≡ ended after → Put (refused_line why) mid 0 new n
+    → ◌≡◌ {A = Written} (record { piece = record { sheet = ended_so; length = n }; page = new }) (written p old)
+comes_refused p sheet why after ended_so old mid new n c e q =
+    hand_on old (sym c.0) (hand_back (refused_piece sheet why) (e ∙ ap ended c.1) (subst (λ x. Put (refused_line why) x 0 new n) c.2 q))

@@ -6,7 +6,7 @@ use Rattle.rule.specs.Level.{depth}
 use Rattle.rule.specs.declared.Refusal.{Refusal}
 use Rattle.rule.specs.declared.Refusal.TheVariants.{NoRoom}
 use Rattle.rule.specs.Answers.{Answer}
-use Rattle.std.specs.Prelude.{Ok, Err}
+use Rattle.std.specs.Prelude.{Some, None, Ok, Err}
 use Rattle.card.specs.declared.Session.{Session}
 use Rattle.card.specs.Loaded.{Loaded}
 use Rattle.card.specs.Session.{none, card_of}
@@ -14,14 +14,13 @@ use Rattle.card.specs.Load.{load_of}
 use Rattle.session.specs.Moved.{Moved}
 use Rattle.session.specs.Good.{Good}
 use Rattle.session.specs.Moves.{rest_of, vector_of}
-use Rattle.sheet_text.specs.declared.Entry.{Entry}
-use Rattle.sheet_text.specs.declared.Entry.TheVariants.{Nothing, Bad, Rest, Vector}
+use Rattle.sheet_text.specs.declared.Entry.TheVariants.{Rest, Vector}
 use Rattle.sheet_pieces.specs.declared.Stage.{Stage}
 use Rattle.sheet_pieces.specs.declared.Stage.TheVariants.{Fresh, Going, Over}
 use Rattle.sheet_pieces.specs.declared.Sheet.{Sheet}
-use Rattle.sheet_pieces.specs.declared.Piece.{Piece}
+use Rattle.sheet_pieces.specs.Piece.{Piece}
 use Rattle.sheet_text.specs.Lines.{refused_line, card_text, vector_text}
-use Rattle.sheet_text.specs.Walk.{card_end, entry_at, body}
+use Rattle.sheet_text.specs.Walk.{card_end, Found, entry_at, body}
 
 -- a sheet of which nothing is written yet
 unfoldable pub fresh : Sheet
@@ -70,11 +69,11 @@ vector_piece sheet next m =
     piece_unless m.answer sheet (record { text = vector_text k m.session; after = moved_sheet sheet m.session next k })
 
 -- a record
-abbrev pub entry_piece : Sheet → List ℕ → Entry → Portion
-entry_piece sheet file Nothing = record { text = []; after = ended sheet }
-entry_piece sheet file (Bad why) = refused_piece sheet why
-entry_piece sheet file (Rest next) = rest_piece sheet next (rest_of sheet.session (body file sheet.at next))
-entry_piece sheet file (Vector next) = vector_piece sheet next (vector_of sheet.session (body file sheet.at next))
+abbrev pub entry_piece : Sheet → List ℕ → Found → Portion
+entry_piece sheet file (Ok None) = record { text = []; after = ended sheet }
+entry_piece sheet file (Err why) = refused_piece sheet why
+entry_piece sheet file (Ok (Some (Rest next))) = rest_piece sheet next (rest_of sheet.session (body file sheet.at next))
+entry_piece sheet file (Ok (Some (Vector next))) = vector_piece sheet next (vector_of sheet.session (body file sheet.at next))
 
 -- the next piece: the card, then a record each, then nothing
 abbrev pub piece_at : Stage → Sheet → List ℕ → Portion

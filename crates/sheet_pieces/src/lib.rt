@@ -1,12 +1,11 @@
 // The sheet of a session file, piece by piece: the card's line first, then a piece for each record, into a lent page.
 #![tactic(auto)]
 
-ghost use Rattle.std.specs.Prelude.{◌≡◌, ◌<◌, ◌≤◌};
-ghost use Rattle.card.specs.Held.{HasCard};
+ghost use Rattle.std.specs.Prelude.{◌≡◌, List, ℕ, ◌<◌, ◌≤◌};
 ghost use Rattle.session.specs.Moves.{rest_of, vector_of};
-ghost use Rattle.sheet_text.specs.Lines.{card_text};
-ghost use Rattle.sheet_pieces.specs.Pieces.{fresh, ended, opened, refused_piece, piece_of, written, Standing, is_over};
+ghost use Rattle.sheet_pieces.specs.Pieces.{fresh, piece_of, written, Standing, is_over};
 ghost use Rattle.sheet_pieces.specs.Pieces.{card_piece, rest_piece, vector_piece, entry_piece};
+ghost use Rattle.sheet_pieces.specs.Inner.Comes.{Comes};
 ghost use Rattle.sheet_text.specs.Walk.{entry_at};
 ghost use Rattle.sheet_pieces.specs.declared.Stage.TheVariants.{Going};
 
@@ -32,13 +31,6 @@ pub struct Sheet {
     pub stage: Stage,
 }
 
-// The sheet after a piece, and the length of the piece's text.
-#[derive(Clone, Copy)]
-pub struct Piece {
-    pub sheet: Sheet,
-    pub length: usize,
-}
-
 // A sheet of which nothing is written yet.
 pub fn begin() -> Sheet
     ensures { (result ≡ fresh) × Standing result }
@@ -52,169 +44,98 @@ pub fn begin() -> Sheet
     }
 }
 
-// The same sheet, at its end.
-fn end(sheet: Sheet) -> Sheet
-    ensures { result ≡ ended sheet }
-{
-    let session = sheet.session;
-    Sheet {
-        session,
-        depth: sheet.depth,
-        at: sheet.at,
-        vectors: sheet.vectors,
-        stage: Stage::Over,
-    }
-}
-
-// A refusal: its line, and the sheet ends.
-fn refused(sheet: Sheet, why: Refusal, out: &mut [u8; 20480]) -> Piece
-    ensures { record { piece = result; page = out.new } ≡ written (refused_piece sheet why) out.old }
-{
-    let length = sheet_text::put_refused(out, why);
-    Piece {
-        sheet: end(sheet),
-        length,
-    }
-}
-
-// A card that was taken: its line, and the place after it.
-fn taken(session: Session, at: usize, out: &mut [u8; 20480]) -> Piece
-    requires { HasCard session }
-    ensures { record { piece = result; page = out.new }
-        ≡ written (record { text = card_text session; after = opened session at }) out.old }
-{
-    let depth = card::depth_of(session);
-    let length = sheet_text::put_card(out, session, depth);
-    Piece {
-        sheet: Sheet {
-            session,
-            depth,
-            at,
-            vectors: 0,
-            stage: Stage::Going,
-        },
-        length,
-    }
-}
-
-// The card's piece.
-fn open_card(sheet: Sheet, file: &[u8], out: &mut [u8; 20480]) -> Piece
-    ensures { record { piece = result; page = out.new } ≡ written (card_piece sheet file.now) out.old }
+// The card's piece: its line, and the place after it.
+fn open_card(sheet: &mut Sheet, file: &[u8], out: &mut [u8; 20480]) -> Answer
+    ensures { Comes (card_piece sheet.old file.now) sheet.old out.old result sheet.new out.new }
 {
     if 65536 < file.len() {
-        return refused(sheet, Refusal::NoRoom, out);
+        return Err(Refusal::NoRoom);
     }
     let at = sheet_text::card_end(file);
-    let loaded = card::load(card::empty(), &file[..at]);
-    let answer = loaded.answer;
-    let session = loaded.session;
-    match answer {
-        Answer::Refused(why) => refused(sheet, why, out),
-        Answer::Done(_) => taken(session, at, out),
-    }
+    let mut session = card::empty();
+    card::load(&mut session, &file[..at])?;
+    let depth = card::depth_of(&session);
+    let length = sheet_text::put_card(out, &session, depth);
+    *sheet = Sheet {
+        session,
+        depth,
+        at,
+        vectors: 0,
+        stage: Stage::Going,
+    };
+    Ok(length)
 }
 
 // A rest prints nothing.
-fn rest(sheet: Sheet, v: &[u8], next: usize, out: &mut [u8; 20480]) -> Piece
-    requires { Standing sheet }
-    ensures { record { piece = result; page = out.new }
-        ≡ written (rest_piece sheet next (rest_of sheet.session v.now)) out.old }
+fn rest(sheet: &mut Sheet, v: &[u8], next: usize) -> Answer
+    requires standing { Standing sheet.old }
+    requires going { sheet.old.stage ≡ Going }
+    ensures { (page : List ℕ) → Comes (rest_piece sheet.old next (rest_of sheet.old.session v.now)) sheet.old page result sheet.new page }
 {
-    let moved = session::rest(sheet.session, v);
-    let answer = moved.answer;
-    let session = moved.session;
-    match answer {
-        Answer::Refused(why) => refused(sheet, why, out),
-        Answer::Done(_) => Piece {
-            sheet: Sheet {
-                session,
-                depth: sheet.depth,
-                at: next,
-                vectors: sheet.vectors,
-                stage: Stage::Going,
-            },
-            length: 0,
-        },
-    }
+    session::rest(&mut sheet.session, v)?;
+    sheet.at = next;
+    Ok(0)
 }
 
 // A vector, counted, with a line a net.
-fn vector(sheet: Sheet, v: &[u8], next: usize, out: &mut [u8; 20480]) -> Piece
-    requires standing { Standing sheet }
-    requires stage_value { (sheet.stage ≡ Going) × (sheet.at < next) }
-    ensures { record { piece = result; page = out.new }
-        ≡ written (vector_piece sheet next (vector_of sheet.session v.now)) out.old }
+fn vector(sheet: &mut Sheet, v: &[u8], next: usize, out: &mut [u8; 20480]) -> Answer
+    requires standing { Standing sheet.old }
+    requires going { (sheet.old.stage ≡ Going) × (sheet.old.at < next) }
+    ensures { Comes (vector_piece sheet.old next (vector_of sheet.old.session v.now)) sheet.old out.old result sheet.new out.new }
 {
-    let moved = session::vector(sheet.session, v);
-    let answer = moved.answer;
-    let session = moved.session;
-    match answer {
-        Answer::Refused(why) => refused(sheet, why, out),
-        Answer::Done(_) => {
-            let vectors = sheet.vectors + 1;
-            let depth = sheet.depth;
-            let length = sheet_text::put_vector(out, session, depth, vectors);
-            Piece {
-                sheet: Sheet {
-                    session,
-                    depth,
-                    at: next,
-                    vectors,
-                    stage: Stage::Going,
-                },
-                length,
-            }
-        }
-    }
+    session::vector(&mut sheet.session, v)?;
+    sheet.at = next;
+    sheet.vectors += 1;
+    Ok(sheet_text::put_vector(out, &sheet.session, sheet.depth, sheet.vectors))
 }
 
 // The piece of the record at the sheet's place.
-fn next_record(sheet: Sheet, file: &[u8], out: &mut [u8; 20480]) -> Piece
-    requires standing { Standing sheet }
-    requires stage_value { sheet.stage ≡ Going }
-    ensures { record { piece = result; page = out.new }
-        ≡ written (entry_piece sheet file.now (entry_at file.now sheet.at)) out.old }
+fn next_record(sheet: &mut Sheet, file: &[u8], out: &mut [u8; 20480]) -> Answer
+    requires standing { Standing sheet.old }
+    requires going { sheet.old.stage ≡ Going }
+    ensures { Comes (entry_piece sheet.old file.now (entry_at file.now sheet.old.at)) sheet.old out.old result sheet.new out.new }
 {
-    let at = sheet.at;
-    match sheet_text::entry_at(file, at) {
-        Entry::Nothing => Piece {
-            sheet: end(sheet),
-            length: 0,
-        },
-        Entry::Bad(why) => refused(sheet, why, out),
-        Entry::Rest(to) => {
-            let from = at + 4;
-            rest(sheet, &file[from..to], to, out)
+    let from = sheet.at;
+    match sheet_text::entry_at(file, from)? {
+        None => {
+            sheet.stage = Stage::Over;
+            Ok(0)
         }
-        Entry::Vector(to) => {
-            let from = at + 4;
-            vector(sheet, &file[from..to], to, out)
-        }
+        Some(Entry::Rest(to)) => rest(sheet, &file[from + 4..to], to),
+        Some(Entry::Vector(to)) => vector(sheet, &file[from + 4..to], to, out),
     }
 }
 
-// The next piece of a file's sheet: its text at the front of the page, and the sheet after it.
-pub fn next(sheet: Sheet, file: &[u8], out: &mut [u8; 20480]) -> Piece
-    requires { Standing sheet }
-    ensures { (record { piece = result; page = out.new } ≡ written (piece_of sheet file.now) out.old)
-        × Standing result.sheet × (result.length ≤ 20480) }
+// The piece of a sheet as it stands: the card's, a record's, or nothing more.
+fn step(sheet: &mut Sheet, file: &[u8], out: &mut [u8; 20480]) -> Answer
+    requires { Standing sheet.old }
+    ensures { Comes (piece_of sheet.old file.now) sheet.old out.old result sheet.new out.new }
 {
-    let stage = sheet.stage;
-    match stage {
+    match sheet.stage {
         Stage::Fresh => open_card(sheet, file, out),
         Stage::Going => next_record(sheet, file, out),
-        Stage::Over => Piece { sheet, length: 0 },
+        Stage::Over => Ok(0),
+    }
+}
+
+// The next piece of a file's sheet: its text at the front of the page, and how long it is. A refusal is a line, and the sheet ends.
+pub fn next(sheet: &mut Sheet, file: &[u8], out: &mut [u8; 20480]) -> usize
+    requires { Standing sheet.old }
+    ensures { (record { piece = record { sheet = sheet.new; length = result }; page = out.new } ≡ written (piece_of sheet.old file.now) out.old)
+        × Standing sheet.new × (result ≤ 20480) }
+{
+    match step(sheet, file, out) {
+        Ok(length) => length,
+        Err(why) => {
+            sheet.stage = Stage::Over;
+            sheet_text::put_refused(out, why)
+        }
     }
 }
 
 // Whether nothing more is to be written.
-pub fn is_over(sheet: Sheet) -> bool
-    ensures { result ≡ is_over sheet.stage }
+pub fn is_over(sheet: &Sheet) -> bool
+    ensures { result ≡ is_over sheet.now.stage }
 {
-    let stage = sheet.stage;
-    match stage {
-        Stage::Fresh => false,
-        Stage::Going => false,
-        Stage::Over => true,
-    }
+    matches!(sheet.stage, Stage::Over)
 }

@@ -2,7 +2,6 @@
 #![tactic(auto)]
 
 ghost use Rattle.std.specs.Prelude.{◌≡◌, [], ◌∷◌, ℕ, ◌+◌, ◌<◌, ◌≤◌, length, get_or};
-ghost use Rattle.lists.specs.Filled.{filled};
 ghost use Rattle.rule.specs.Steps.{Step};
 ghost use Rattle.session.specs.Good.{Good};
 ghost use Rattle.step_list.specs.Listing.{list_of};
@@ -65,29 +64,6 @@ pub fn put_list<'a>(
     next
 }
 
-// The first n entries of an array, at the front of lent room.
-fn copy_nets(from: &[u16; 4096], n: usize, room: &mut [u16])
-    requires { (n ≤ 4096) × (n ≤ length room.old) }
-    ensures { room.new ≡ filled (λ (e : ℕ). get_or from.now e 0) n room.old }
-{
-    let mut i: usize = 0;
-    while i < n {
-        room[i] = from[i];
-        i += 1;
-    }
-}
-
-fn copy_times(from: &[u8; 4096], n: usize, room: &mut [u8])
-    requires { (n ≤ 4096) × (n ≤ length room.old) }
-    ensures { room.new ≡ filled (λ (e : ℕ). get_or from.now e 0) n room.old }
-{
-    let mut i: usize = 0;
-    while i < n {
-        room[i] = from[i];
-        i += 1;
-    }
-}
-
 // The step list into lent room, nets and times.
 pub fn list(s: &Session, nets: &mut [u16], times: &mut [u8]) -> Answer
     requires { Good s.now }
@@ -105,7 +81,7 @@ pub fn list(s: &Session, nets: &mut [u16], times: &mut [u8]) -> Answer
     if times.len() < total {
         return Err(Refusal::NoRoom);
     }
-    copy_nets(&step_nets, total, nets);
-    copy_times(&step_times, total, times);
+    nets[..total].copy_from_slice(&step_nets[..total]);
+    times[..total].copy_from_slice(&step_times[..total]);
     Ok(total)
 }

@@ -5,64 +5,23 @@ use mathlib.Core.List.{List}
 use mathlib.Core.Logic.{◌⊎◌, inl, inr}
 use Prim.Native.Nat.{ℕ, ◌≤◌, ◌<◌}
 use native.Mathlib.Omega.{arith}
-use lib.Dec.{leb, lit≤}
-use lib.ListN.{length, get_or, replicate, length-replicate}
+use lib.Dec.{leb}
+use lib.ListN.{length, get_or}
 use borrow.Author.Tests.{leb-true, leb-false, le-leb, lt-leb}
-use Rattle.lists.proofs.Rooms.{fills_none, fills_same, fills_at, fills_past, fills_through}
+use Rattle.lists.proofs.Rooms.{fills_same, fills_at, fills_past}
 use Rattle.rule.specs.Steps.{Step, step_list, step_at}
 use Rattle.rule.specs.declared.Refusal.{Refusal}
 use Rattle.rule.specs.declared.Refusal.TheVariants.{NotReady, NoRoom}
 use Rattle.std.specs.Prelude.{Ok, Err}
 use Rattle.card.specs.declared.Session.{Session}
 use Rattle.card.specs.Session.{card_of}
-use Rattle.card.proofs.Kept.{card_steps}
-use Rattle.session.specs.Good.{Good}
 use Rattle.step_list.specs.Listing.{list_of}
 use Rattle.step_list.specs.Inner.Listing.{Holds}
 use Rattle.step_list.proofs.Lists.{held_net, held_time}
 use Rattle.step_list.proofs.Answers.{list_12, list_18, list_0}
 use Rattle.step_records.specs.declared.StepRecord.{StepRecord}
-use Rattle.step_records.specs.declared.Listing.{Listing}
 use Rattle.step_records.specs.Records.{blank_record, step_record, records_in, records_put, Answered, records_of}
-use Rattle.step_records.specs.Inner.Records.{record_in, refused_listing, listing_of}
-
--- What is found for room of a given length
-
-module _ (s : Session) (room : ℕ) where
-  abbrev ks : List Step
-  ks = step_list (card_of s)
-
-  abbrev full : Listing
-  full = record { answer = Ok (length ks); total = length ks; records = records_put s (replicate 4096 blank_record) }
-
-  abbrev found : Bool → Bool → Listing
-  found a b = cond a (cond b full (refused_listing NoRoom)) (refused_listing NotReady)
-
-  found_is : (a b : Bool) → s.loaded ≡ a → leb (length ks) room ≡ b → listing_of s room ≡ found a b
-  unfolding listing_of
-  found_is a b ea eb = ap (λ x. found x (leb (length ks) room)) ea ∙ ap (found a) eb
-
-  pub listing_none : s.loaded ≡ false → listing_of s room ≡ refused_listing NotReady
-  listing_none e = found_is false _ e refl
-
-  pub listing_short : s.loaded ≡ true → room < length ks → listing_of s room ≡ refused_listing NoRoom
-  listing_short e l = found_is true false e (lt-leb (length ks) room l)
-
-  pub listing_full : s.loaded ≡ true → length ks ≤ room → listing_of s room ≡ full
-  listing_full e l = found_is true true e (le-leb (length ks) room l)
-
-  -- the list stands in two arrays, whose first entries are made records
-  pub listing_made : {nets₀ times₀ nets times : List ℕ} {total : ℕ} → Holds ks nets₀ times₀ nets times total → length nets₀ ≡ 4096
-      → length times₀ ≡ 4096 → total ≤ 4096 → s.loaded ≡ true → total ≤ room → (records : List StepRecord)
-      → records ≡ records_in (record_in nets times) total (replicate 4096 blank_record)
-      → record { answer = Ok total; total = total; records = records } ≡ listing_of s room
-  listing_made {nets₀} {times₀} {nets} {times} {total} h ln lt few loaded fits records e =
-      let at : (e : ℕ) → e < total → e < length ks = λ e b. omega (arith, h.size) in
-      ap (λ x. record { answer = Ok total; total = total; records = x })
-      (e ∙ fills_same blank_record (record_in nets times) (λ e. step_record (step_at ks e)) total (replicate 4096 blank_record)
-      (λ e b i. record { net = held_net h ln lt few e (at e b) i; time = held_time h ln lt few e (at e b) i }))
-      ∙ ap (λ n. record { answer = Ok n; total = n; records = records_in (λ e. step_record (step_at ks e)) n (replicate 4096 blank_record) }) h.size
-      ∙ sym (listing_full loaded (omega (arith, h.size)))
+use Rattle.step_records.specs.Inner.Records.{record_in}
 
 -- What goes to the lent room
 
@@ -118,40 +77,17 @@ module _ (s : Session) (room : List StepRecord) where
       go r (says_18 l m) q = (refl, inr ((cc), l, m))
       go r (says_0 l m) q = let z : ◌≡◌ {A = ℕ} 0 1 = cc in absurd (omega arith)
 
-  -- what is found is copied to the room's front
-  abbrev pub copied : Listing → Answered
-  copied r = record { answer = r.answer; room = records_in (λ e. get_or r.records e blank_record) r.total room }
-
-  module _ (good : Good s) where
-    pub found_fits : ((listing_of s (length room)).total ≤ length room) × ((listing_of s (length room)).total ≤ 4096)
-    found_fits = go s.loaded (leb (length all) (length room)) refl refl
-      where
-        Fits : Listing → Type 0
-        Fits r = (r.total ≤ length room) × (r.total ≤ 4096)
-
-        go : (a b : Bool) → s.loaded ≡ a → leb (length all) (length room) ≡ b → Fits (listing_of s (length room))
-        go false b ea eb = subst Fits (sym (listing_none s (length room) ea)) (omega arith, lit≤ tt)
-        go true false ea eb = subst Fits (sym (listing_short s (length room) ea (leb-false _ _ eb))) (omega arith, lit≤ tt)
-        go true true ea eb = let l = leb-true _ _ eb in subst Fits (sym (listing_full s (length room) ea l)) (l, card_steps s (good.card ea))
-
-    pub found_copied : copied (listing_of s (length room)) ≡ records_of s room
-    found_copied = go s.loaded (leb (length all) (length room)) refl refl
-      where
-        none_copied : (why : Refusal) → copied (refused_listing why) ≡ kept why
-        none_copied why = ap (λ x. record { answer = Err why; room = x }) (sym (fills_none blank_record _ room))
-
-        go : (a b : Bool) → s.loaded ≡ a → leb (length all) (length room) ≡ b → copied (listing_of s (length room)) ≡ records_of s room
-        go false b ea eb = ap copied (listing_none s (length room) ea) ∙ none_copied NotReady ∙ sym (records_12 ea)
-        go true false ea eb = let l = leb-false _ _ eb in ap copied (listing_short s (length room) ea l) ∙ none_copied NoRoom ∙ sym (records_18 ea l)
-        go true true ea eb =
-            let l = leb-true _ _ eb in
-            let few = card_steps s (good.card ea) in
-            let size = length-replicate 4096 blank_record in
-            ap copied (listing_full s (length room) ea l)
-            ∙ ap (λ x. record { answer = Ok (length all); room = x })
-            (fills_through blank_record (λ e. step_record (step_at all e)) (length all) (length all) (replicate 4096 blank_record) room (omega arith)
-            (omega (arith, few, size)))
-            ∙ sym (records_0 ea l)
+  -- the list stands in two arrays, and the records of its first entries go to the room's front
+  pub records_made : {nets₀ times₀ nets times : List ℕ} {total : ℕ} → Holds all nets₀ times₀ nets times total → length nets₀ ≡ 4096 → length times₀ ≡ 4096
+      → total ≤ 4096 → s.loaded ≡ true → total ≤ length room → (records : List StepRecord) → records ≡ records_in (record_in nets times) total room
+      → record { answer = Ok total; room = records } ≡ records_of s room
+  records_made {nets₀} {times₀} {nets} {times} {total} h ln lt few loaded fits records e =
+      let at : (e : ℕ) → e < total → e < length all = λ e b. omega (arith, h.size) in
+      ap (λ x. record { answer = Ok total; room = x })
+      (e ∙ fills_same blank_record (record_in nets times) (λ e. step_record (step_at all e)) total room
+      (λ e b i. record { net = held_net h ln lt few e (at e b) i; time = held_time h ln lt few e (at e b) i }))
+      ∙ ap (λ n. record { answer = Ok n; room = records_in (λ e. step_record (step_at all e)) n room }) h.size
+      ∙ sym (records_0 loaded (omega (arith, h.size)))
 
   -- What stands in the lent room
 

@@ -1,7 +1,11 @@
-// Text, put byte by byte onto a lent page.
+// Text, put onto a lent page; and what is read, put into a lent room.
 #![tactic(auto)]
 
+mod input;
+
 ghost use Rattle.std.specs.Prelude.{◌≡◌, [], ◌∷◌, ◌+◌, ◌<◌, ◌≤◌, length};
+
+pub use input::fill;
 
 // A lent page, and the place where its text ends so far.
 #[derive(Drop)]

@@ -1,8 +1,13 @@
 -- `step_list::list` meets its contract. Assumes nothing.
-use mathlib.Core.Path.{◌≡◌}
+use mathlib.Core.Path.{◌≡◌, sym, ap, ◌∙◌}
 use mathlib.Core.Bool.{true}
-use Prim.Native.Nat.{◌≤◌}
-use lib.ListN.{length}
+use mathlib.Core.List.{List, ◌++◌}
+use Prim.Native.Nat.{ℕ, ◌≤◌}
+use native.Mathlib.Omega.{arith}
+use lib.ListN.{length, get_or, take, drop}
+use lib.Seq.{length-take-le}
+use Rattle.lists.specs.Filled.{filled}
+use Rattle.lists.proofs.Rooms.{fills_copied}
 use Rattle.rule.specs.Steps.{step_list}
 use Rattle.card.specs.Session.{card_of}
 use Rattle.card.specs.Held.{HasCard}
@@ -42,14 +47,28 @@ returns-then-times-total c =
     let a = c.args in
     list_short_times a.s.now a.nets.now a.times.now (loaded (goal.at.returns-then-times-total c).Else-not-s) c.put_list-total.result (size (goal.at.returns-then-times-total c).After-put_list-total) c.if-nets-total.false c.if-times-total.true
 
-pub copy_nets-requires : goal.copy_nets-requires
-copy_nets-requires c = (few (goal.at.copy_nets-requires c).After-put_list-total, c.if-nets-total.false)
+pub slice_bounds-step_nets-end : goal.slice_bounds-step_nets-end
+slice_bounds-step_nets-end c = omega (arith, few (goal.at.slice_bounds-step_nets-end c).After-put_list-total, c.put_list-total.array_long)
 
-pub copy_times-requires : goal.copy_times-requires
-copy_times-requires c = (few (goal.at.copy_times-requires c).After-put_list-total, c.if-times-total.false)
+pub slice_bounds-copy_from_slice-end-3 : goal.slice_bounds-copy_from_slice-end-3
+slice_bounds-copy_from_slice-end-3 c =
+    let enough = few (goal.at.slice_bounds-copy_from_slice-end-3 c).After-put_list-total in
+    sym (length-take-le _ _ (omega (arith, enough, c.put_list-total.array_long)))
+
+pub copy_from_slice-requires : goal.copy_from_slice-requires
+copy_from_slice-requires c =
+    let enough = few (goal.at.copy_from_slice-requires c).After-put_list-total in
+    length-take-le _ _ c.if-nets-total.false ∙ sym (length-take-le _ _ (omega (arith, enough, c.put_list-total.array_long)))
 
 pub returns : goal.returns
 returns c =
     let a = c.args in
-    list_full a.s.now a.nets.now a.times.now (loaded (goal.at.returns c).Else-not-s) c.put_list-total.result (list_held a.s.now (card (goal.at.returns c).Else-not-s) c.put_list-total.ensures)
-    (search rules) (search rules) (few (goal.at.returns c).After-put_list-total) c.if-nets-total.false c.if-times-total.false _ _ c.copy_nets.ensures c.copy_times.ensures
+    let at = goal.at.returns c in
+    let n = c.put_list-total.result in
+    let enough = few at.After-put_list-total in
+    let front : (from room : List ℕ) → length from ≡ 4096 → n ≤ length room → take n from ++ drop n room ≡ filled (λ e. get_or from e 0) n room =
+    λ from room long fits. fills_copied 0 from room n (omega (arith, long, enough)) fits in
+    list_full a.s.now a.nets.now a.times.now (loaded at.Else-not-s) n (list_held a.s.now (card at.Else-not-s) c.put_list-total.ensures)
+    (search rules) (search rules) enough c.if-nets-total.false c.if-times-total.false _ _
+    (ap (λ xs. xs ++ drop n a.nets.now) c.copy_from_slice.ensures.after ∙ front _ a.nets.now (search rules) c.if-nets-total.false)
+    (ap (λ xs. xs ++ drop n a.times.now) c.copy_from_slice-2.ensures.after ∙ front _ a.times.now (search rules) c.if-times-total.false)
