@@ -1,7 +1,6 @@
 -- `bench::do_first` meets its contract: the entries' steps are run from the before values and the inputs' new ones; a part leaves the session,
 -- the whole list moves it. Assumes nothing.
-use mathlib.Core.Path.{◌≡◌, refl, sym, subst}
-use native.Mathlib.Omega.{arith}
+use mathlib.Core.Path.{◌≡◌, refl, sym, ◌∙◌, subst}
 use Rattle.lists.specs.Listed.{listed}
 use Rattle.inputs.specs.Inputs.{given}
 use Rattle.card.specs.Held.{HasCard}
