@@ -1,16 +1,17 @@
 """What the documents say of the tree, compared with the tree: `audit_test.py ROOT`. Prints each fault, and fails if there is one.
 
-1. Every function that has a `requires` is called, step by step, from a program's main or from a call for C; these ask nothing. As many functions have no
-   `ensures` as docs/AUDIT.md says, all of them in the programs.
-2. docs/AUDIT.md has every definition of specs/ at its crate and file, and no other. Definitions are written in four ways and in no other. A file of specs/Inner says
-   that it is inner and names a law that ties it, which is there. Neither a definition outside Inner, nor what demands/proofs says, nor the contract of an operation that
-   docs/CONTRACTS.md calls public speaks of an inner definition; and every other definition is one that these, the examples, the laws of the host's calls, a function below
-   the operations or a theorem of docs/CONTRACTS.md are built from.
-3. In the README and in every document of docs/, names with a path behind them are defined in that file, and every other name occurs somewhere in the tree, but for
-   docs/REQUESTS.md, which names what is still to come. docs/CONTRACTS.md names every edit and every theorem once, and a public operation has two edits at
-   least, by what these say that they are of. docs/figures and docs/drawing would write what stands.
-4. host/krasvome.h has the length of a session that host_bytes has. The calls of host_c are those of host, with their clauses. No file of host_bytes, or of a crate that uses
-   it, writes out where a part of a session stands, but for the definitions and the constants themselves.
+1. Every function that has a `requires` is called, step by step, from a program's main or from a call for C; these ask nothing. As many functions have no `ensures` as
+   docs/AUDIT.md says, all of them in the programs; in the impl of a trait the trait's `ensures`, or the impl's ghost member, stands for one.
+2. docs/AUDIT.md has every definition of specs/ at its crate and file, and no other. Definitions are written in four ways and in no other; that there is one proof of
+   something at most (`IsProp`), which a ghost field needs, is no definition. A file of specs/Inner says that it is inner and names a law that ties it, which is there.
+   Neither a definition outside Inner, nor what demands/proofs says, nor the contract of an operation that docs/CONTRACTS.md calls public speaks of an inner definition;
+   and every other definition is one that these, the examples, the laws of the host's calls, a function below the operations or a theorem of docs/CONTRACTS.md are built
+   from.
+3. In the README and in every document of docs/ but the two that name what was, docs/PORT.md and docs/DESIGN-PASS.md, names with a path behind them are defined in that
+   file, and every other name occurs somewhere in the tree, but for docs/REQUESTS.md, which names what is still to come. docs/CONTRACTS.md names every edit and every
+   theorem once, and a public operation has two edits at least, by what these say that they are of. docs/figures and docs/drawing would write what stands.
+4. host/krasvome.h has the length of a session that host_bytes has. The calls of host_c are those of host, with their clauses. No file of host_bytes, or of a crate that
+   uses it, writes out where a part of a session stands, but for the definitions and the constants themselves.
 5. No line of prose in the README or in docs/ has more than 160 characters, and none of code or definitions more than 200.
 """
 import pathlib
