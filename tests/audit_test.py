@@ -181,12 +181,13 @@ def said_of(title):
     functions, cites = set(), set()
     for row in re.findall(r"^\| (`.*?) \|", contracts.split(f"\n## {title}\n")[1].split("\n## ")[0], flags=re.M):
         for names, crate in re.findall(r"((?:`[^`]+`(?:, )?)+) \(([a-z_]+)\)", row):
-            functions |= {(crate, name.split("::")[-1]) for name in names_of(names)}
+            functions |= {(crate, name) for name in names_of(names)}
     for crate, name in sorted(functions):
-        found = []
+        found, (of, bare_name) = [], name.rpartition("::")[::2]
         for file in sorted((crates / crate / "src").glob("**/*.rt")):
             text = re.sub(r"//.*", "", file.read_text(encoding="utf-8"))
-            found += [(contract, visible(text)) for contract in re.findall(rf"^ *pub (?:extern \"C\" )?fn {name}\b(.*?)^ *\{{$", text, flags=re.M | re.S)]
+            for part in [inside for _, _, block, inside in blocks(text) if re.sub(r"<.*", "", block) == of] if of else [text]:
+                found += [(contract, visible(text)) for contract in re.findall(rf"^ *pub (?:extern \"C\" )?fn {bare_name}\b(.*?)^ *\{{$", part, flags=re.M | re.S)]
         if len(found) != 1:
             faults.append(f"docs/CONTRACTS.md has {crate}::{name}, and there are {len(found)}")
         for contract, names in found:
