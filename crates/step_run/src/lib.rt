@@ -40,7 +40,8 @@ pub fn run_order<'a>(vars: &mut [u64; 256], circuit: Circuit, list: StepList, or
     done
 }
 
-// The steps along the list, counted from 0.
+// The steps along the list, counted from 0. It and `run_order` differ in where a step's number comes from, and share the two calls of a turn: one function
+// of both would take a closure for the number, and ask of it what the two loops show, which is no plainer.
 pub fn run_list(vars: &mut [u64; 256], circuit: Circuit, list: StepList) -> usize
     requires words { Words vars.old }
     requires doable { Doable circuit.types.now circuit.wiring.counts.now (steps_named list.nets.now list.times.now list.total) }
