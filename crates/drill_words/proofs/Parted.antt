@@ -4,8 +4,9 @@ use mathlib.Core.Bool.{Bool, true, false, cond}
 use mathlib.Core.List.{List, [], ◌∷◌}
 use Prim.Native.Nat.{ℕ, zero, suc, ◌+◌, ◌≤◌}
 use native.Mathlib.Omega.{arith}
-use lib.Dec.{eqb}
-use lib.ListN.{length, get_or}
+use lib.Dec.{eqb, leb}
+use lib.ListN.{length, get_or, drop}
+use borrow.Author.Tests.{le-leb}
 use Rattle.std.specs.Prelude.{Option, Some, None, unwrap_or}
 use Rattle.std.specs.Option.{option_map}
 use Rattle.std.specs.Borrow.{Bor}
@@ -66,3 +67,11 @@ module _ (sep : ℕ) where
 
   pub parts_few : (t : List ℕ) → length (parts sep t) ≤ length t + 1
   parts_few t = omega (arith, later_few t)
+
+-- the parts from a place on, and none from one past the text's end: from its start they are all of them
+pub parts_from : ℕ → List ℕ → ℕ → List (List ℕ)
+parts_from sep text from = cond (leb from (length text)) (parts sep (drop from text)) []
+
+pub from_start : (sep : ℕ) (t : List ℕ) → parts_from sep t 0 ≡ parts sep t
+unfolding parts_from
+from_start sep t = rw (le-leb 0 (length t) (omega arith))

@@ -1,23 +1,20 @@
 -- What bytes hold, and which way each call goes. Assumes nothing.
-use mathlib.Core.Path.{◌≡◌, sym, ap, ◌∙◌}
+use mathlib.Core.Path.{◌≡◌, refl, sym, ap, ◌∙◌}
 use mathlib.Core.List.{List}
 use Prim.Native.Nat.{ℕ, ◌<◌, ◌≤◌}
 use lib.Dec.{ltb}
 use lib.ListN.{length}
 use borrow.Author.Tests.{lt-ltb, le-ltb, ltb-false}
-use Rattle.std.specs.Prelude.{Bool, true, false, cond, Result, Option, None, Some, Ok, Err, ok_or}
+use Rattle.std.specs.Prelude.{Bool, true, false, cond, Option, None, Some, Ok, Err, ok_or}
 use Rattle.rule.specs.declared.Refusal.{Refusal}
 use Rattle.rule.specs.declared.Refusal.TheVariants.{NotReady, NoRoom}
-use Rattle.rule.specs.Answers.{Answer}
 use Rattle.card_records.specs.Written.{Bytes}
 use Rattle.card.specs.declared.Session.{Session}
 use Rattle.session.specs.Good.{Good}
-use Rattle.session.specs.Moved.{Moved}
 use Rattle.history.specs.Told.{Told, history_of}
 use Rattle.operations.specs.declared.Move.{Move}
 use Rattle.operations.specs.Operated.{operated}
 use Rattle.host_bytes.specs.Layout.{session_length}
-use Rattle.host_bytes.specs.Kept.{kept_by}
 use Rattle.host_made.specs.Made.{made_again}
 use Rattle.host_made.proofs.Making.{again_good}
 use Rattle.host.specs.Calls.{packed, session_in, left_by, move_in, host_move, history_in, host_history}

@@ -1,13 +1,19 @@
 -- An answer as one number: 0 is its low byte where it is done, its own number where it is refused, and a count of at most 4,096 is whole in it.
 -- Assumes nothing.
-use mathlib.Core.Path.{◌≡◌, ap}
+use mathlib.Core.Path.{◌≡◌, refl, ap}
 use Prim.Native.Nat.{ℕ, ◌+◌, ◌*◌, ◌%◌, ◌≤◌}
 use native.Mathlib.Omega.{arith}
+use Rattle.std.specs.Result.{result_unwrap_or}
 use Rattle.rule.specs.declared.Refusal.{Refusal}
 use Rattle.rule.specs.Answers.{Answer}
 use Rattle.std.specs.Prelude.{Ok, Err}
 use Rattle.rule.specs.Numbers.{number_of, answer_number, answer_count}
 use Rattle.host.specs.Calls.{packed}
+
+-- the count that comes with an answer; with a refusal 0
+pub counted : (a : Answer) → result_unwrap_or a 0 ≡ answer_count a
+counted (Ok count) = refl
+counted (Err why) = refl
 
 pub done_0 : (count : ℕ) → packed (Ok count) % 256 ≡ 0
 unfolding packed

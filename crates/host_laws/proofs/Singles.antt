@@ -1,18 +1,16 @@
 -- Many vectors in one call leave the bytes that the same vectors leave one by one, by the same engine, and so the session that the library's own calls leave; the words
 -- of each vector are those of the session after it; a refused call leaves bytes and room as they were. Assumes nothing.
 use mathlib.Core.Path.{◌≡◌, refl, sym, ap, subst, ◌∙◌}
-use mathlib.Core.Bool.{Bool, true, false, cond}
+use mathlib.Core.Bool.{true}
 use mathlib.Core.List.{List, [], ◌∷◌, ◌++◌}
 use Prim.Native.Nat.{ℕ, zero, suc, ◌+◌, ◌*◌, ◌/◌, ◌%◌, ◌≤◌, ◌<◌}
 use native.Mathlib.Nat.{le_of_eq, le-div_iff_mul-le, mul-le-mul_right}
 use native.Mathlib.Omega.{arith}
-use lib.Dec.{ltb}
 use lib.ListN.{length, get_or}
 use Rattle.lists.specs.Entries.{every}
 use Rattle.lists.specs.Places.{part}
 use Rattle.lists.proofs.Listed.{listed_none, listed_more}
 use Rattle.lists.proofs.Places.{turn_fits}
-use Rattle.rule.specs.declared.Refusal.TheVariants.{NotReady, NoRoom}
 use Rattle.rule.specs.Answers.{Answer}
 use Rattle.std.specs.Prelude.{Result, Ok, Err}
 use Rattle.rule.specs.declared.Refusal.{Refusal}

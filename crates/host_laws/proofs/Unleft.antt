@@ -1,6 +1,6 @@
 -- Bytes that no call left answer 12: bytes from which a session is made again are exactly the bytes that some calls left of a slice of zeros. Assumes nothing.
 use mathlib.Core.Path.{◌≡◌, refl, sym, ap, subst, ◌∙◌}
-use mathlib.Core.Bool.{true, false}
+use mathlib.Core.Bool.{true}
 use mathlib.Core.List.Memᴰ
 use mathlib.Core.List.{List, [], ◌∷◌}
 use mathlib.Core.Logic.{◌⊎◌, inl, inr}
@@ -12,7 +12,6 @@ use lib.ListN.{length, get_or, drop, length-take, get_or-eq_default}
 use lib.Seq.{ext_get_or, get_or-take, get_or-drop}
 use Rattle.lists.specs.Entries.{◌∈◌}
 use Rattle.lists.specs.Places.{part, clear, area}
-use Rattle.lists.proofs.Bools.{yes_or_no}
 use Rattle.lists.proofs.Places.{clear_at, length_area, area_in, area_out, part_listed}
 use Rattle.lists.proofs.Listed.{length_listed}
 use Rattle.rule.specs.Net.{Net}

@@ -5,7 +5,7 @@ use mathlib.Core.List.{List}
 use Prim.Native.Nat.{ℕ}
 use lib.ListN.{length}
 use Rattle.rule.specs.Steps.{step_list}
-use Rattle.std.specs.Prelude.{Ok, Err}
+use Rattle.std.specs.Prelude.{Ok}
 use Rattle.inputs.specs.Inputs.{given}
 use Rattle.inputs.specs.Allowed.{Vector}
 use Rattle.card.specs.declared.Session.{Session}
