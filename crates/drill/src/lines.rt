@@ -127,7 +127,7 @@ impl<'a> Drill<'a> {
         self.answers.put_room(values, |value| *value)
     }
 
-    // The answer to a line, without its LF. An operation is a method and an arm here.
+    // The answer to a line, without its LF. An operation is a method and an arm here: the lines differ in what they carry, so a table of functions is no plainer.
     fn answer(&mut self, line: &[u8]) -> io::Result<()> {
         match drill_text::command_of(line) {
             Some(Command::Load) => self.move_line(Move::Load, line),
