@@ -20,9 +20,6 @@ push-requires c =
     let fits = order_room a.levels.now a.n a.l l.g c.requires.1 (omega arith) c.if-levels-g.true in
     (omega (arith, c.requires.0), omega (arith, c.requires.0, ap (λ o. o.gates) l.invariant))
 
-pub loop-g-init : goal.loop-g-init
-loop-g-init c = c.requires.2 ∙ ap as_order (sym (append-nil (order_of c.args.levels.now c.args.n (c.args.l - 1))))
-
 pub loop-g-preserved : goal.loop-g-preserved
 loop-g-preserved c =
     let l = c.loop-g in
