@@ -3,9 +3,9 @@ import re
 
 
 def visible(text):
-    """The names that a file imports from specs/: where each is defined, as (crate, file, name)."""
+    """The names that a file imports from specs/, in blocks of impls too: where each is defined, as (crate, file, name)."""
     found = {}
-    for crate, file, names in re.findall(r"^(?:ghost )?use Rattle\.(\w+)\.specs\.([\w.]+?)\.\{([^}]*)\}", text, flags=re.M):
+    for crate, file, names in re.findall(r"^ *(?:ghost )?use Rattle\.(\w+)\.specs\.([\w.]+?)\.\{([^}]*)\}", text, flags=re.M):
         for name in names.split(","):
             first, *last = name.strip().split(" as ")
             found[last[0] if last else first] = (crate, file.replace(".", "/"), first)

@@ -6,12 +6,11 @@ use Prim.Native.Nat.{ℕ, ◌≤◌, ◌<◌}
 use native.Mathlib.Omega.{arith}
 use lib.Dec.{eqb}
 use lib.ListN.{length, get_or, take}
-use lib.Seq.{length-take-le, get_or-take}
 use borrow.Author.Tests.{eq-eqb, ne_eqb}
 use Rattle.lists.specs.Listed.{listed}
 use Rattle.lists.specs.Filled.{filled}
 use Rattle.lists.proofs.Tests.{out_map}
-use Rattle.lists.proofs.Listed.{is_listed, listed_at, map_listed}
+use Rattle.lists.proofs.Listed.{listed_self, listed_at, map_listed}
 use Rattle.lists.proofs.Order.{at_in}
 use Rattle.lists.proofs.Rooms.{fills_same}
 use Rattle.word.specs.Word.{bit, val}
@@ -39,11 +38,10 @@ use Rattle.bench.specs.Inner.Taken.{Taken, byte_in}
 use Rattle.bench.specs.Bench.{Benched, not_done, byte_at, bench_done}
 use Rattle.bench.proofs.Ties.{named_steps}
 
--- the first entries, place by place
-ordered_first : (nets times order : List ℕ) (k : ℕ) → k ≤ length order → ordered_steps nets times order k ≡ order_steps nets times (take k order)
-ordered_first nets times order k l =
-    sym (ap (map (numbered_step nets times)) (is_listed (λ i. get_or order i 0) k 0 (take k order) (length-take-le k order l) (λ i b. get_or-take k order i 0 b))
-    ∙ map_listed (numbered_step nets times) (λ i. get_or order i 0) k)
+-- the entries' steps, place by place
+ordered_whole : (nets times entries : List ℕ) → ordered_steps nets times entries (length entries) ≡ order_steps nets times entries
+ordered_whole nets times entries =
+    sym (ap (map (numbered_step nets times)) (listed_self entries 0) ∙ map_listed (numbered_step nets times) (λ i. get_or entries i 0) (length entries))
 
 module _ (s : Session) (h : HasCard s) (nets times : List ℕ) (total : ℕ) (order : List ℕ) (t : Taken (card_of s) nets times total order) where
   abbrev c : List Net
@@ -52,9 +50,9 @@ module _ (s : Session) (h : HasCard s) (nets times : List ℕ) (total : ℕ) (or
   pub total_few : total ≤ 4096
   total_few = omega (arith, t.total_is, card_steps s h)
 
-  -- an entry is a step's number
-  pub entry_low : (i : ℕ) → i < length order → get_or order i 0 < 4096
-  entry_low i l = omega (arith, total_few, t.below (get_or order i 0) (at_in order i 0 l))
+  -- the first entries are steps' numbers
+  pub entry_low : (k i : ℕ) → i < length (take k order) → get_or (take k order) i 0 < 4096
+  entry_low k i l = let e = get_or (take k order) i 0 in omega (arith, total_few, t.below e (take_in k order e (at_in (take k order) i 0 l)))
 
   -- and a step's number names a step
   number_step : (e : ℕ) → e < total → IsStep c (step_at (step_list c) e)
@@ -64,20 +62,23 @@ module _ (s : Session) (h : HasCard s) (nets times : List ℕ) (total : ℕ) (or
   number_net e l = omega (arith, t.named.net_is e (omega (arith, t.total_is)), (step_low s h _ (number_step e l)).0)
 
   module _ (k : ℕ) (short : k ≤ total) where
-    pub steps_first : ordered_steps nets times order k ≡ steps_of c (take k order)
-    steps_first =
-        ordered_first nets times order k (omega (arith, t.long))
-        ∙ named_steps (step_list c) nets times t.named (take k order) (λ e m. omega (arith, t.total_is, t.below e (take_in k order e m)))
+    abbrev entries : List ℕ
+    entries = take k order
 
-    pub first_doable : Doable s.types s.counts (ordered_steps nets times order k)
+    pub steps_first : ordered_steps nets times entries (length entries) ≡ steps_of c entries
+    steps_first =
+        ordered_whole nets times entries
+        ∙ named_steps (step_list c) nets times t.named entries (λ e m. omega (arith, t.total_is, t.below e (take_in k order e m)))
+
+    pub first_doable : Doable s.types s.counts (ordered_steps nets times entries (length entries))
     first_doable =
         subst (Doable s.types s.counts) (sym steps_first)
-        (steps_doable s h (steps_of c (take k order)) (λ j m. let o = out_map (step_at (step_list c)) (take k order) j m in subst (IsStep c) (sym o.2) (number_step o.0 (t.below o.0 (take_in k order o.0 o.1)))))
+        (steps_doable s h (steps_of c entries) (λ j m. let o = out_map (step_at (step_list c)) entries j m in subst (IsStep c) (sym o.2) (number_step o.0 (t.below o.0 (take_in k order o.0 o.1)))))
 
     -- what they leave
     module _ (new : ℕ → Bool) (vars after : List ℕ) (count : ℕ) (done : List Bool) (room written : List ℕ)
         (started : vars ≡ start_vars s new)
-        (made : record { words = after; count = count } ≡ ran s.types s.counts s.places s.sets vars (ordered_steps nets times order k))
+        (made : record { words = after; count = count } ≡ ran s.types s.counts s.places s.sets vars (ordered_steps nets times entries (length entries)))
         (marked : done ≡ listed (stands order k) 4096)
         (filled_is : written ≡ filled (byte_in after nets times done) total room) where
       abbrev left : Ran

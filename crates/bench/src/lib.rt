@@ -15,16 +15,17 @@ ghost use Rattle.bench.specs.Bench.{not_done, bench_done, bench_order, bench_of}
 
 use card::Session;
 use rule::{Answer, Refusal};
+use step_vars::{Circuit, StepList};
 use word::PcSet;
 
-// Which step numbers are among the first k entries of an order.
-fn among(order: &[u16], k: usize) -> [bool; 4096]
-    requires { (k ≤ length order.now) × ((i : ℕ) → i < length order.now → get_or order.now i 0 < 4096) }
-    ensures { result ≡ listed (λ e. some (λ x. eqb x e) (take k order.now)) 4096 }
+// Which step numbers are among some entries of an order.
+fn among(entries: &[u16]) -> [bool; 4096]
+    requires { (i : ℕ) → i < length entries.now → get_or entries.now i 0 < 4096 }
+    ensures { result ≡ listed (λ e. some (λ x. eqb x e) entries.now) 4096 }
 {
     let mut out = [false; 4096];
-    for &e in &order[..k] {
-        out[usize::from(e)] = true;
+    for e in entries {
+        out[usize::from(*e)] = true;
     }
     out
 }
@@ -45,21 +46,14 @@ fn step_byte(done: bool, word: u64, t: u32) -> u8
 }
 
 // A byte for each step number, at the front of lent room.
-fn put_bytes<'a>(
-    vars: &'a [u64; 256],
-    nets: &'a [u16; 4096],
-    times: &'a [u8; 4096],
-    done: &'a [bool; 4096],
-    total: usize,
-    room: &mut [u8],
-)
-    requires { (total ≤ 4096) × (total ≤ length room.old) × ((e : ℕ) → e < total → get_or nets.now e 0 < 256) }
+fn put_bytes<'a>(vars: &'a [u64; 256], list: StepList, done: &'a [bool; 4096], room: &mut [u8])
+    requires { (list.total ≤ length room.old) × ((e : ℕ) → e < list.total → get_or list.nets.now e 0 < 256) }
     ensures { room.new
-        ≡ filled (byte_in vars.now nets.now times.now done.now) total room.old }
+        ≡ filled (byte_in vars.now list.entry.nets.now list.entry.times.now done.now) list.entry.total room.old }
 {
-    for e in 0..total {
-        let g = usize::from(nets[e]);
-        room[e] = step_byte(done[e], vars[g], u32::from(times[e]));
+    for e in 0..list.total {
+        let (g, t) = list.step(e);
+        room[e] = step_byte(done[e], vars[g], t);
     }
 }
 
@@ -68,28 +62,30 @@ fn put_bytes<'a>(
 fn do_first<'a>(
     s: &mut Session,
     v: &[u8],
-    nets: &'a [u16; 4096],
-    times: &'a [u8; 4096],
-    total: usize,
+    list: StepList,
     order: &'a [u16],
     first: usize,
     room: &mut [u8],
 ) -> usize
     requires good { Good s.old }
     requires rested_value { (s.old.rested ≡ true) × (length v.now ≡ s.old.inputs) }
-    requires taken { Taken (card_of s.old) nets.now times.now total order.now }
-    requires first_le_total { (first ≤ total) × (total ≤ length room.old) }
+    requires taken { Taken (card_of s.old) list.nets.now list.times.now list.total order.now }
+    requires first_le_total { (first ≤ list.total) × (list.total ≤ length room.old) }
     ensures { record { moved = record { answer = Ok result; session = s.new }; room = room.new }
         ≡ bench_done s.old (given s.old.kinds v.now) order.now first room.old }
 {
     let before = inputs::tops(&s.words);
     let mut vars = step_vars::start(&before, &s.feeds, v);
-    let count = step_run::run_order(
-        &mut vars, &s.types, &s.counts, &s.places, &s.sets, s.nets, nets, times, order, first,
-    );
-    let done = among(order, first);
-    put_bytes(&vars, nets, times, &done, total, room);
-    if first < total {
+    let circuit = Circuit {
+        types: &s.types,
+        wiring: s.wiring(),
+        sets: &s.sets,
+    };
+    let entries = &order[..first];
+    let count = step_run::run_order(&mut vars, circuit, list, entries);
+    let done = among(entries);
+    put_bytes(&vars, list, &done, room);
+    if first < list.total {
         return count;
     }
     let words = step_vars::histories_from(&vars, &s.sets);
@@ -108,16 +104,24 @@ fn run_bench<'a>(s: &mut Session, v: &[u8], order: &'a [u16], k: u64, room: &mut
     let mut nets = [0u16; 4096];
     let mut times = [0u8; 4096];
     let total = step_list::put_list(&mut nets, &mut times, &s.sets, &s.order, s.gates);
-    step_orders::judge_order(
-        &s.counts, &s.places, &s.sets, s.nets, &nets, &times, total, order,
-    )?;
+    let list = StepList {
+        nets: &nets,
+        times: &times,
+        total,
+    };
+    let circuit = Circuit {
+        types: &s.types,
+        wiring: s.wiring(),
+        sets: &s.sets,
+    };
+    step_orders::judge_order(circuit, list, order)?;
     if (total as u64) < k {
         return Err(Refusal::TooManyAsked);
     }
     if room.len() < total {
         return Err(Refusal::NoRoom);
     }
-    Ok(do_first(s, v, &nets, &times, total, order, k as usize, room))
+    Ok(do_first(s, v, list, order, k as usize, room))
 }
 
 // A bench run: a vector, an order of step numbers, and how many of its entries to do; a byte for each step number goes to lent room.

@@ -56,11 +56,19 @@ pub struct Cursor {
 }
 
 // Two bytes, the low one first.
+fn two_at(s: &[u8], i: usize) -> u16
+    requires { i + 1 < length s.now }
+    ensures { result ≡ u16_at s.now i }
+{
+    u16::from_le_bytes([s[i], s[i + 1]])
+}
+
+// The number that they are.
 pub fn u16_at(s: &[u8], i: usize) -> usize
     requires { i + 1 < length s.now }
     ensures { (result ≡ u16_at s.now i) × (result < 65536) }
 {
-    usize::from(u16::from_le_bytes([s[i], s[i + 1]]))
+    usize::from(two_at(s, i))
 }
 
 // The kind that a number names; 5 and 6 are unknown here.
@@ -77,6 +85,14 @@ impl TryFrom<usize> for Kind {
             4 => Ok(Kind::End),
             _ => Err(Fault::BadHead),
         }
+    }
+}
+
+impl From<Kind> for u8 {
+    ghost from_gives = { λ kind number. number ≡ kind_number kind };
+
+    fn from(kind: Kind) -> u8 {
+        kind as u8
     }
 }
 
@@ -130,7 +146,7 @@ fn net_record(kind: Kind, len: usize, body: usize, first: u8) -> NetRecord
         Kind::Gate => (first, (len - 1) / 2),
     };
     NetRecord {
-        kind: kind as u8,
+        kind: u8::from(kind),
         ty,
         start: body + 1,
         count,
@@ -189,7 +205,7 @@ fn put_pins(places: &mut [u16; 2048], s: &[u8], n: usize, start: usize, count: u
     ensures { places.new ≡ laid places.old (n * 8) (λ (j : ℕ). u16_at s.now (start + 2 * j)) count }
 {
     for j in 0..count {
-        places[n * 8 + j] = u16_at(s, start + 2 * j) as u16;
+        places[n * 8 + j] = two_at(s, start + 2 * j);
     }
 }
 

@@ -12,6 +12,8 @@ ghost use Rattle.card_wiring.specs.Inner.Wires.{Wires, Fitting, all_fit, backs, 
 ghost use Rattle.card_wiring.specs.Wired.{pin_fits};
 ghost use Rattle.card_wiring.specs.Inner.Wired.{as_order, with_gate, set_wired, arrays_wired};
 
+mod gather;
+
 use rule::Refusal;
 use word::PcSet;
 

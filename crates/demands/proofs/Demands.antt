@@ -15,7 +15,7 @@ use Rattle.rule.specs.Steps.{Joined, GoodOrder, step_list, step_at}
 use Rattle.rule.specs.Numbers.{number_of, answer_number}
 use Rattle.rule.specs.declared.Refusal.{Refusal}
 use Rattle.rule.specs.declared.Refusal.TheVariants.{OrderLength, OrderEntry, OrderEarly}
-use Rattle.std.specs.Prelude.{Ok, Err}
+use Rattle.std.specs.Prelude.{Ok}
 use Rattle.rule.proofs.StepLists.{list_number}
 use Rattle.rule.specs.Answers.{Verdict}
 use Rattle.inputs.specs.Inputs.{given}

@@ -12,7 +12,7 @@ use Rattle.rule.specs.declared.Refusal.TheVariants.{NotReady, NoRoom, NoInput, N
 use Rattle.rule.specs.Answers.{Answer}
 use Rattle.std.specs.Prelude.{Ok, Err}
 use Rattle.rule.specs.Answers.{Verdict}
-use Rattle.card_wiring.specs.Wired.{wired_of}
+use Rattle.card_wiring.specs.Wired.{verdict_of, wired_of}
 use Rattle.inputs.specs.Inputs.{given, vector_judged}
 use Rattle.card_records.specs.Scan.{Meaning, Stops, Means, meaning}
 use Rattle.card.specs.declared.Session.{Session}
@@ -52,7 +52,7 @@ load_keeps s b = by_meaning (meaning b)
 
     by_meaning : (m : Meaning) → let l = load_meant s m in Refusing s (slices []) (answered l.answer l.session (slices []))
     by_meaning (Stops why) = refuses why
-    by_meaning (Means c) = by_verdict c (eqb (inputs_of c) 0) (wired_of c).verdict
+    by_meaning (Means c) = by_verdict c (eqb (inputs_of c) 0) (verdict_of (wired_of c))
 
 -- an operation that takes a vector
 moves_keep : (s next : Session) (verdict : Verdict) (k : ℕ) → let m = moving s verdict k next in Refusing s (slices []) (answered m.answer m.session (slices []))
@@ -109,7 +109,7 @@ ask_keeps : (s : Session) (n : ℕ) → Refusing s (slices []) (outcome s (ask n
 unfolding net_asked
 ask_keeps s n = go s.loaded (ltb n s.nets) _ _
   where
-    go : (x y : Bool) (l w : ℕ) → Refusing s (slices []) (told (cond x (cond y (Known l w) (Err NoSuchNet)) (Err NotReady)) s)
+    go : (x y : Bool) (l w : ℕ) → Refusing s (slices []) (told (cond x (cond y (Ok (record { level = l; word = w })) (Err NoSuchNet)) (Err NotReady)) s)
     go true true l w m = absurd (m refl)
     go true false l w m = record { count = refl; level = refl; word = refl; session = refl; room = refl }
     go false y l w m = record { count = refl; level = refl; word = refl; session = refl; room = refl }

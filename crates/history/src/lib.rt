@@ -1,9 +1,8 @@
 // What a bench hand asks of a session that ran: the histories with their flags.
 #![tactic(auto)]
 
-ghost use Rattle.std.specs.Prelude.{◌≡◌, false, ℕ, ◌<◌, ◌≤◌, length, get_or};
-ghost use Rattle.lists.specs.Filled.{filled};
-ghost use Rattle.word.specs.Word.{bit, val};
+ghost use Rattle.std.specs.Prelude.{◌≡◌};
+ghost use Rattle.word.specs.Word.{bit};
 ghost use Rattle.rule.specs.Flag.{changes, flag_of};
 ghost use Rattle.session.specs.Good.{Good};
 ghost use Rattle.history.specs.Told.{history_of};
@@ -31,43 +30,13 @@ pub fn changes_of(word: u64, before: bool) -> u32
 pub fn flag_of(word: u64, before: bool) -> u8
     ensures { result ≡ flag_of before (bit word) }
 {
-    let count = changes_of(word, before);
-    if count == 0 {
-        return 0;
-    }
-    if count == 1 {
-        return 1;
-    }
-    let w = PcSet { word };
-    if before == w.has(63) { 2 } else { 3 }
-}
-
-// The words of the first n nets, at the front of lent room.
-fn put_words(words: &[u64; 256], n: usize, room: &mut [u64])
-    requires { (n ≤ 256) × (n ≤ length room.old) }
-    ensures { room.new ≡ filled (λ (i : ℕ). get_or words.now i 0) n room.old }
-{
-    room[..n].copy_from_slice(&words[..n]);
-}
-
-// Their before values.
-fn put_befores(before: &[bool; 256], n: usize, room: &mut [u8])
-    requires { (n ≤ 256) × (n ≤ length room.old) }
-    ensures { room.new ≡ filled (λ (i : ℕ). val (get_or before.now i false)) n room.old }
-{
-    for i in 0..n {
-        room[i] = u8::from(before[i]);
-    }
-}
-
-// Their flags.
-fn put_flags<'a>(words: &'a [u64; 256], before: &'a [bool; 256], n: usize, room: &mut [u8])
-    requires { (n ≤ 256) × (n ≤ length room.old) }
-    ensures { room.new
-        ≡ filled (λ (i : ℕ). flag_of (get_or before.now i false) (bit (get_or words.now i 0))) n room.old }
-{
-    for i in 0..n {
-        room[i] = flag_of(words[i], before[i]);
+    match changes_of(word, before) {
+        0 => 0,
+        1 => 1,
+        _ => {
+            let w = PcSet { word };
+            if before == w.has(63) { 2 } else { 3 }
+        }
     }
 }
 
@@ -90,8 +59,10 @@ pub fn history(s: &Session, words: &mut [u64], befores: &mut [u8], flags: &mut [
     if flags.len() < n {
         return Err(Refusal::NoRoom);
     }
-    put_words(&s.words, n, words);
-    put_befores(&s.before, n, befores);
-    put_flags(&s.words, &s.before, n, flags);
+    words[..n].copy_from_slice(&s.words[..n]);
+    for i in 0..n {
+        befores[i] = u8::from(s.before[i]);
+        flags[i] = flag_of(s.words[i], s.before[i]);
+    }
     Ok(n)
 }

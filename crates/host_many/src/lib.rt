@@ -13,6 +13,7 @@ ghost use Rattle.host_many.specs.Many.{many_by, many_judged, kept_at, kept_many}
 use card::Session;
 use operations::Engine;
 use rule::{Answer, Refusal};
+use step_vars::{Circuit, StepList};
 
 // The words of a history in lent room from a place on, so many of them.
 fn put_words(words: &[u64; 256], n: usize, room: &mut [u64], at: usize)
@@ -36,6 +37,8 @@ fn many_fields(s: &Session, vectors: &[u8], k: usize, room: &mut [u64])
 {
     let n = s.inputs;
     let nets = s.nets;
+    let wiring = s.wiring();
+    let order = s.gate_list();
     let mut words = s.words;
     let mut done: usize = 0;
     let mut from: usize = 0;
@@ -45,11 +48,8 @@ fn many_fields(s: &Session, vectors: &[u8], k: usize, room: &mut [u64])
             &mut words,
             &s.feeds,
             &s.types,
-            &s.counts,
-            &s.places,
-            nets,
-            &s.order,
-            s.gates,
+            wiring,
+            order,
             &vectors[from..from + n],
         );
         put_words(&words, nets, room, at);
@@ -72,6 +72,16 @@ fn many_steps(s: &Session, vectors: &[u8], k: usize, room: &mut [u64]) -> usize
     let mut step_nets = [0u16; 4096];
     let mut step_times = [0u8; 4096];
     let total = step_list::put_list(&mut step_nets, &mut step_times, &s.sets, &s.order, s.gates);
+    let circuit = Circuit {
+        types: &s.types,
+        wiring: s.wiring(),
+        sets: &s.sets,
+    };
+    let list = StepList {
+        nets: &step_nets,
+        times: &step_times,
+        total,
+    };
     let mut last = s.words;
     let mut count: usize = 0;
     let mut done: usize = 0;
@@ -81,14 +91,8 @@ fn many_steps(s: &Session, vectors: &[u8], k: usize, room: &mut [u64]) -> usize
         let left = step_run::advance(
             &last,
             &s.feeds,
-            &s.types,
-            &s.counts,
-            &s.places,
-            &s.sets,
-            nets,
-            &step_nets,
-            &step_times,
-            total,
+            circuit,
+            list,
             &vectors[from..from + n],
         );
         last = left.words;

@@ -82,6 +82,16 @@ module _ (s : Session) (h : HasCard s) where
       let listed_gate : (i : ℕ) → i < s.gates → get_or s.order i 0 ∈ gate_order c = λ i l. subst (λ xs. get_or s.order i 0 ∈ xs) (order_back s h) (in_listed (λ j. get_or s.order j 0) s.gates i l) in
       ((order_fits s h).0, λ i l. gate_fits (get_or s.order i 0) (out_order c (get_or s.order i 0) (listed_gate i l)).0)
 
+  -- the same of them as a list of their own
+  pub front_gates : (gs : List ℕ) → gs ≡ listed (λ k. get_or s.order k 0) s.gates
+      → ((i : ℕ) → i < length gs → Gates s.types s.counts (get_or gs i 0)) × ((i j : ℕ) → i < j → j < length gs → ¬ (get_or gs i 0 ≡ get_or gs j 0))
+  front_gates gs e =
+      let long : length gs ≡ s.gates = ap length e ∙ length_listed (λ k. get_or s.order k 0) s.gates in
+      let at : (i : ℕ) → i < s.gates → get_or gs i 0 ≡ get_or s.order i 0 = λ i l. ap (λ xs. get_or xs i 0) e ∙ listed_at (λ k. get_or s.order k 0) s.gates i 0 l in (
+        λ i l. subst (Gates s.types s.counts) (sym (at i (omega arith))) (gates_fit.1 i (omega arith)),
+        λ i j l m q. gates_once i j l (omega arith) (sym (at i (omega arith)) ∙ q ∙ at j (omega arith)),
+      )
+
   -- The inputs
 
   pub inputs_ranked : s.inputs ≡ rank s.kinds 256

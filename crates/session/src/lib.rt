@@ -7,6 +7,7 @@ ghost use Rattle.session.specs.Good.{Good};
 ghost use Rattle.session.specs.Moves.{moved_by, vector_of, rested_by, rest_of};
 
 use card::Session;
+use card_wiring::Wiring;
 use rule::Answer;
 
 // A vector that fits, run by fields in the session's own words: the last values at 63 are the before values.
@@ -16,16 +17,14 @@ fn run_fields(s: &mut Session, v: &[u8])
     ensures { s.new ≡ moved_by s.old (given s.old.kinds v.now) }
 {
     s.before = inputs::tops(&s.words);
+    // Not by `wiring` and `gate_list`, which borrow the words too.
+    let wiring = Wiring {
+        counts: &s.counts,
+        places: &s.places,
+        nets: s.nets,
+    };
     fields::advance(
-        &mut s.words,
-        &s.feeds,
-        &s.types,
-        &s.counts,
-        &s.places,
-        s.nets,
-        &s.order,
-        s.gates,
-        v,
+        &mut s.words, &s.feeds, &s.types, wiring, &s.order[..s.gates], v,
     );
 }
 
@@ -37,8 +36,14 @@ fn settle(s: &mut Session, v: &[u8])
 {
     let constants = inputs::constants_of(&s.kinds, &s.types);
     let mut words = inputs::flats(&constants);
+    let held = &*s;
     fields::advance(
-        &mut words, &s.feeds, &s.types, &s.counts, &s.places, s.nets, &s.order, s.gates, v,
+        &mut words,
+        &held.feeds,
+        &held.types,
+        held.wiring(),
+        held.gate_list(),
+        v,
     );
     let before = inputs::tops(&words);
     let flat = inputs::flats(&before);

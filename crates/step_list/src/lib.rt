@@ -15,23 +15,24 @@ use word::PcSet;
 pub const MOST: usize = 4096;
 
 // The step of net g at time t goes to place `at` of the list.
-fn put_step(nets: &mut [u16; 4096], times: &mut [u8; 4096], at: usize, g: usize, t: u32)
-    requires { (g < 256) × (t < 64) × (at < 4096) }
+fn put_step(nets: &mut [u16; 4096], times: &mut [u8; 4096], at: usize, g: u16, t: u32)
+    requires { (t < 64) × (at < 4096) }
     ensures { Adds nets.old times.old at (record { net = g; time = t } ∷ []) nets.new times.new (at + 1) }
 {
-    nets[at] = g as u16;
+    nets[at] = g;
     times[at] = t as u8;
 }
 
 // The steps of net g, by time, from place `at` of the list on: one for each element of its set.
-fn put_net(nets: &mut [u16; 4096], times: &mut [u8; 4096], at: usize, set: u64, g: usize) -> usize
-    requires { (g < 256) × (at + length (times_in set g 63) ≤ 4096) }
+fn put_net(nets: &mut [u16; 4096], times: &mut [u8; 4096], at: usize, set: u64, g: u16) -> usize
+    requires { at + length (times_in set g 63) ≤ 4096 }
     ensures { Adds nets.old times.old at (times_in set g 63) nets.new times.new result }
 {
     let all = PcSet { word: set };
     let mut left = all.not_below(1);
     let mut next = at;
     let mut t = left.least();
+    // a while, since no form is plainer: the next time is the least that is left of the set, which no range counts
     while t < 64 {
         put_step(nets, times, next, g, t);
         next += 1;
@@ -55,11 +56,9 @@ pub fn put_list<'a>(
         nets.old times.old nets.new times.new result }
 {
     let mut next: usize = 0;
-    let mut i: usize = 0;
-    while i < gates {
-        let g = card_wiring::wide16(order[i]);
-        next = put_net(nets, times, next, sets[g], g);
-        i += 1;
+    for i in 0..gates {
+        let g = order[i];
+        next = put_net(nets, times, next, sets[usize::from(g)], g);
     }
     next
 }

@@ -1,17 +1,18 @@
 -- Which variables are there, kept as words: what a gate's pins find, and one step of an order more. Assumes nothing.
-use mathlib.Core.Path.{◌≡◌, refl, sym, ap, ap₂, ◌∙◌}
+use mathlib.Core.Path.{◌≡◌, sym, ap, ap₂, ◌∙◌}
 use mathlib.Core.Bool.{Bool, true, false, cond, ◌&&◌}
-use mathlib.Core.List.{List, [], ◌∷◌, map}
-use Prim.Native.Nat.{ℕ, suc, ◌+◌, ◌*◌, ◌^◌, ◌≤◌, ◌<◌}
+use mathlib.Core.List.{List, ◌∷◌, map}
+use Prim.Native.Nat.{ℕ, suc, ◌+◌, ◌^◌, ◌≤◌, ◌<◌}
 use native.Mathlib.Numerals.{add-one}
 use lib.Dec.{eqb}
 use lib.ListN.{length, get_or, set, drop, replicate, drop_of_length-le}
 use lib.Seq.{drop-cons}
 use borrow.Author.Tests.{eq-eqb, ne_eqb}
+use Rattle.std.specs.List.{list_all}
+use Rattle.std.proofs.lemmas.List.Folds.{list_all-map}
+use Rattle.card_wiring.specs.Layout.{pins_at}
+use Rattle.card_wiring.proofs.Pins.{all_every}
 use Rattle.lists.specs.Entries.{every}
-use Rattle.lists.specs.Listed.{listed}
-use Rattle.lists.proofs.Tests.{every_no}
-use Rattle.lists.proofs.Listed.{in_listed}
 use Rattle.lists.proofs.Order.{at_in}
 use Rattle.word.specs.Word.{bit}
 use Rattle.word.proofs.Words.{is_word}
@@ -25,28 +26,15 @@ use Rattle.step_orders.proofs.Judging.{entries_of}
 
 -- A gate's pins
 
-every_map : {A B : Type 0} (test : B → Bool) (f : A → B) (xs : List A) → every test (map f xs) ≡ every (λ x. test (f x)) xs
-every_map test f [] = refl
-every_map test f (x ∷ xs) = ap (λ b. test (f x) && b) (every_map test f xs)
-
-module _ (done counts places sets : List ℕ) (g t : ℕ) where
+module _ (done sets : List ℕ) (t : ℕ) where
   abbrev pub pin_done : ℕ → Bool
   pin_done p = done_of done (read_in sets t p)
 
-  abbrev pub pin_of : ℕ → ℕ
-  pin_of j = get_or places (g * 8 + j) 0
-
-  abbrev pub all_done : Bool
-  all_done = every (done_of done) (reads_in counts places sets (record { net = g; time = t }))
-
-  by_pins_lem : all_done ≡ every pin_done (listed pin_of (get_or counts g 0))
-  by_pins_lem = every_map (done_of done) (read_in sets t) (listed pin_of (get_or counts g 0))
-
-  pub pins_all : (j : ℕ) → j ≡ get_or counts g 0 → every pin_done (listed pin_of j) ≡ true → true ≡ all_done
-  pins_all j e h = sym (by_pins_lem ∙ ap (λ n. every pin_done (listed pin_of n)) (sym e) ∙ h)
-
-  pub pins_not : (j : ℕ) → j < get_or counts g 0 → pin_done (pin_of j) ≡ false → false ≡ all_done
-  pins_not j l h = sym (by_pins_lem ∙ every_no pin_done (listed pin_of (get_or counts g 0)) (pin_of j) (in_listed pin_of (get_or counts g 0) j l) h)
+-- the pins one after another find what they read
+pub pins_done : (done counts places sets : List ℕ) (g t : ℕ)
+    → list_all (pin_done done sets t) (pins_at counts places g) ≡ every (done_of done) (reads_in counts places sets (record { net = g; time = t }))
+pins_done done counts places sets g t =
+    sym (list_all-map (done_of done) (read_in sets t) (pins_at counts places g)) ∙ all_every (done_of done) (map (read_in sets t) (pins_at counts places g))
 
 -- An order
 

@@ -3,12 +3,12 @@
 
 ghost use Rattle.std.specs.Prelude.{◌≡◌, true, false, ℕ, ◌<◌, ◌≤◌, length, get_or, replicate};
 ghost use Rattle.lists.specs.Entries.{every};
-ghost use Rattle.card_wiring.specs.Inner.Wires.{Wires, Fitting};
 ghost use Rattle.step_vars.specs.Variables.{reads_in};
 ghost use Rattle.step_orders.specs.Orders.{entries_fit};
 ghost use Rattle.step_orders.specs.Inner.Ready.{StepEntry, order_steps, done_of, ready_in, judged_in};
 
 use rule::{Refusal, Verdict};
+use step_vars::{Circuit, StepList};
 
 // Whether every entry of an order is a step's number, and none stands twice.
 fn entries_fit(order: &[u16], total: usize) -> bool
@@ -30,52 +30,27 @@ fn entries_fit(order: &[u16], total: usize) -> bool
 }
 
 // Whether all that gate g reads at time t is there: bit u of a net's word in `done` says that its variable of time u is. That of an open pin always is.
-fn reads_done<'a>(
-    done: &[u64; 256],
-    counts: &'a [u8; 256],
-    places: &'a [u16; 2048],
-    sets: &'a [u64; 256],
-    n: usize,
-    g: usize,
-    t: u32,
-) -> bool
-    requires wires { Wires counts.now places.now n }
-    requires fitting { Fitting counts.now places.now n }
-    requires g_bound { (g < 256) × (0 < t) }
+fn reads_done(done: &[u64; 256], circuit: Circuit, g: usize, t: u32) -> bool
+    requires { (g < 256) × (0 < t) }
     ensures { result
-        ≡ every (done_of done.now) (reads_in counts.now places.now sets.now (record { net = g; time = t })) }
+        ≡ every (done_of done.now)
+        (reads_in circuit.entry.wiring.counts.now circuit.entry.wiring.places.now circuit.entry.sets.now (record { net = g; time = t })) }
 {
-    for j in 0..usize::from(counts[g]) {
-        if !step_vars::read_at(done, sets, places[g * 8 + j], t, true) {
-            return false;
-        }
-    }
-    true
+    let sets = circuit.sets;
+    circuit.wiring.pins(g).iter().all(|p| step_vars::read_at(done, sets, *p, t, true))
 }
 
 // Whether no step of an order stands before one that it reads.
-fn order_ready<'a>(
-    counts: &'a [u8; 256],
-    places: &'a [u16; 2048],
-    sets: &'a [u64; 256],
-    n: usize,
-    nets: &'a [u16; 4096],
-    times: &'a [u8; 4096],
-    order: &'a [u16],
-) -> bool
-    requires wires { Wires counts.now places.now n }
-    requires fitting { Fitting counts.now places.now n }
-    requires by_index { (i : ℕ) → i < length order.now → StepEntry nets.now times.now (get_or order.now i 0) }
+fn order_ready<'a>(circuit: Circuit, list: StepList, order: &'a [u16]) -> bool
+    requires { (i : ℕ) → i < length order.now → StepEntry list.nets.now list.times.now (get_or order.now i 0) }
     ensures { result
-        ≡ ready_in counts.now places.now sets.now (replicate 256 1)
-        (order_steps nets.now times.now order.now) }
+        ≡ ready_in circuit.entry.wiring.counts.now circuit.entry.wiring.places.now circuit.entry.sets.now (replicate 256 1)
+        (order_steps list.entry.nets.now list.entry.times.now order.now) }
 {
     let mut done = [1u64; 256];
-    for &entry in order {
-        let e = usize::from(entry);
-        let g = usize::from(nets[e]);
-        let t = u32::from(times[e]);
-        if !reads_done(&done, counts, places, sets, n, g, t) {
+    for entry in order {
+        let (g, t) = list.step(usize::from(*entry));
+        if !reads_done(&done, circuit, g, t) {
             return false;
         }
         done[g] = word::put(done[g], t, true);
@@ -84,29 +59,19 @@ fn order_ready<'a>(
 }
 
 // The judgement of an order: 15, 16, 17.
-pub fn judge_order<'a>(
-    counts: &'a [u8; 256],
-    places: &'a [u16; 2048],
-    sets: &'a [u64; 256],
-    n: usize,
-    nets: &'a [u16; 4096],
-    times: &'a [u8; 4096],
-    total: usize,
-    order: &'a [u16],
-) -> Verdict
-    requires wires { Wires counts.now places.now n }
-    requires fitting { Fitting counts.now places.now n }
-    requires total_bound { (total ≤ 4096) × ((e : ℕ) → e < total → StepEntry nets.now times.now e) }
+pub fn judge_order<'a>(circuit: Circuit, list: StepList, order: &'a [u16]) -> Verdict
+    requires { (e : ℕ) → e < list.total → StepEntry list.nets.now list.times.now e }
     ensures { result
-        ≡ judged_in counts.now places.now sets.now nets.now times.now total order.now }
+        ≡ judged_in circuit.entry.wiring.counts.now circuit.entry.wiring.places.now circuit.entry.sets.now
+        list.entry.nets.now list.entry.times.now list.entry.total order.now }
 {
-    if order.len() != total {
+    if order.len() != list.total {
         return Err(Refusal::OrderLength);
     }
-    if !entries_fit(order, total) {
+    if !entries_fit(order, list.total) {
         return Err(Refusal::OrderEntry);
     }
-    if !order_ready(counts, places, sets, n, nets, times, order) {
+    if !order_ready(circuit, list, order) {
         return Err(Refusal::OrderEarly);
     }
     Ok(())

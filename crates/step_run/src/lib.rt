@@ -3,7 +3,6 @@
 
 ghost use Rattle.std.specs.Prelude.{◌≡◌, true, ℕ, ◌<◌, ◌≤◌, length, get_or};
 ghost use Rattle.rule.specs.Steps.{step_list};
-ghost use Rattle.card_wiring.specs.Inner.Wires.{Wires, Fitting};
 ghost use Rattle.inputs.specs.Inputs.{given};
 ghost use Rattle.card.specs.Session.{card_of};
 ghost use Rattle.session.specs.Good.{Good};
@@ -15,6 +14,7 @@ ghost use Rattle.step_run.specs.Vector.{ran_along, steps_vector_of};
 
 use card::Session;
 use rule::Answer;
+use step_vars::{Circuit, StepList};
 
 // What a vector by steps leaves: the words of the nets' histories, and how many steps were done.
 #[derive(Clone, Copy)]
@@ -23,63 +23,35 @@ pub struct Advanced {
     pub count: usize,
 }
 
-// The first k entries of an order of step numbers, one step after another; the count of the steps done is handed back.
-pub fn run_order<'a>(
-    vars: &mut [u64; 256],
-    types: &'a [u8; 256],
-    counts: &'a [u8; 256],
-    places: &'a [u16; 2048],
-    sets: &'a [u64; 256],
-    n: usize,
-    nets: &'a [u16; 4096],
-    times: &'a [u8; 4096],
-    order: &'a [u16],
-    k: usize,
-) -> usize
-    requires wires { Wires counts.now places.now n }
-    requires fitting { Fitting counts.now places.now n }
-    requires k_in_bounds { (k ≤ length order.now) × ((i : ℕ) → i < k → get_or order.now i 0 < 4096) × Words vars.old }
-    requires doable { Doable types.now counts.now (ordered_steps nets.now times.now order.now k) }
+// The entries of an order of step numbers, one step after another; the count of the steps done is handed back.
+pub fn run_order<'a>(vars: &mut [u64; 256], circuit: Circuit, list: StepList, order: &'a [u16]) -> usize
+    requires order { ((i : ℕ) → i < length order.now → get_or order.now i 0 < 4096) × Words vars.old }
+    requires doable { Doable circuit.types.now circuit.wiring.counts.now (ordered_steps list.nets.now list.times.now order.now (length order.now)) }
     ensures { record { words = vars.new; count = result }
-        ≡ ran types.now counts.now places.now sets.now vars.old
-        (ordered_steps nets.now times.now order.now k) }
+        ≡ ran circuit.entry.types.now circuit.entry.wiring.counts.now circuit.entry.wiring.places.now circuit.entry.sets.now vars.old
+        (ordered_steps list.entry.nets.now list.entry.times.now order.now (length order.now)) }
 {
     let mut done: usize = 0;
-    for &entry in &order[..k] {
-        let e = usize::from(entry);
-        let net = usize::from(nets[e]);
-        let time = u32::from(times[e]);
-        step_vars::step(vars, types, counts, places, sets, n, net, time);
+    for entry in order {
+        let (net, time) = list.step(usize::from(*entry));
+        circuit.step(vars, net, time);
         done += 1;
     }
     done
 }
 
 // The steps along the list, counted from 0.
-pub fn run_list<'a>(
-    vars: &mut [u64; 256],
-    types: &'a [u8; 256],
-    counts: &'a [u8; 256],
-    places: &'a [u16; 2048],
-    sets: &'a [u64; 256],
-    n: usize,
-    nets: &'a [u16; 4096],
-    times: &'a [u8; 4096],
-    total: usize,
-) -> usize
-    requires wires { Wires counts.now places.now n }
-    requires fitting { Fitting counts.now places.now n }
-    requires total_bound { (total ≤ 4096) × Words vars.old }
-    requires doable { Doable types.now counts.now (steps_named nets.now times.now total) }
+pub fn run_list(vars: &mut [u64; 256], circuit: Circuit, list: StepList) -> usize
+    requires words { Words vars.old }
+    requires doable { Doable circuit.types.now circuit.wiring.counts.now (steps_named list.nets.now list.times.now list.total) }
     ensures { record { words = vars.new; count = result }
-        ≡ ran types.now counts.now places.now sets.now vars.old
-        (steps_named nets.now times.now total) }
+        ≡ ran circuit.entry.types.now circuit.entry.wiring.counts.now circuit.entry.wiring.places.now circuit.entry.sets.now vars.old
+        (steps_named list.entry.nets.now list.entry.times.now list.entry.total) }
 {
     let mut done: usize = 0;
-    for e in 0..total {
-        let net = usize::from(nets[e]);
-        let time = u32::from(times[e]);
-        step_vars::step(vars, types, counts, places, sets, n, net, time);
+    for e in 0..list.total {
+        let (net, time) = list.step(e);
+        circuit.step(vars, net, time);
         done += 1;
     }
     done
@@ -87,34 +59,18 @@ pub fn run_list<'a>(
 
 // The words that a vector leaves along a list of steps, of words that end in the before values, and the count of the steps done. The variables start with
 // the before values and the inputs' new ones.
-pub fn advance<'a>(
-    words: &'a [u64; 256],
-    feeds: &'a [u16; 256],
-    types: &'a [u8; 256],
-    counts: &'a [u8; 256],
-    places: &'a [u16; 2048],
-    sets: &'a [u64; 256],
-    n: usize,
-    nets: &'a [u16; 4096],
-    times: &'a [u8; 4096],
-    total: usize,
-    v: &'a [u8],
-) -> Advanced
-    requires wires { Wires counts.now places.now n }
-    requires fitting { Fitting counts.now places.now n }
-    requires total_bound { (total ≤ 4096) × (length v.now ≤ 256) × ((j : ℕ) → get_or feeds.now j 0 < 256) }
-    requires doable { Doable types.now counts.now (steps_named nets.now times.now total) }
+pub fn advance<'a>(words: &'a [u64; 256], feeds: &'a [u16; 256], circuit: Circuit, list: StepList, v: &'a [u8]) -> Advanced
+    requires v_len_bound { (length v.now ≤ 256) × ((j : ℕ) → get_or feeds.now j 0 < 256) }
+    requires doable { Doable circuit.types.now circuit.wiring.counts.now (steps_named list.nets.now list.times.now list.total) }
     ensures { result
-        ≡ stepped feeds.now types.now counts.now places.now sets.now
-        (steps_named nets.now times.now total) words.now v.now }
+        ≡ stepped feeds.now circuit.entry.types.now circuit.entry.wiring.counts.now circuit.entry.wiring.places.now circuit.entry.sets.now
+        (steps_named list.entry.nets.now list.entry.times.now list.entry.total) words.now v.now }
 {
     let before = inputs::tops(words);
     let mut vars = step_vars::start(&before, feeds, v);
-    let count = run_list(
-        &mut vars, types, counts, places, sets, n, nets, times, total,
-    );
-    let next = step_vars::histories_from(&vars, sets);
-    Advanced { words: next, count }
+    let count = run_list(&mut vars, circuit, list);
+    let words = step_vars::histories_from(&vars, circuit.sets);
+    Advanced { words, count }
 }
 
 // A vector that fits, run by steps along the list; the count of the steps done is handed back.
@@ -127,10 +83,17 @@ fn run_steps(s: &mut Session, v: &[u8]) -> usize
     let mut nets = [0u16; 4096];
     let mut times = [0u8; 4096];
     let total = step_list::put_list(&mut nets, &mut times, &s.sets, &s.order, s.gates);
-    let left = advance(
-        &s.words, &s.feeds, &s.types, &s.counts, &s.places, &s.sets, s.nets, &nets, &times, total,
-        v,
-    );
+    let circuit = Circuit {
+        types: &s.types,
+        wiring: s.wiring(),
+        sets: &s.sets,
+    };
+    let list = StepList {
+        nets: &nets,
+        times: &times,
+        total,
+    };
+    let left = advance(&s.words, &s.feeds, circuit, list, v);
     let words = left.words;
     s.before = inputs::tops(&s.words);
     s.words = words;

@@ -2,14 +2,12 @@
 #![tactic(auto)]
 
 ghost use Rattle.std.specs.Prelude.{◌≡◌, map, ◌⊎◌, ℕ, ◌+◌, ◌<◌, ◌≤◌, length, get_or};
-ghost use Rattle.gate.specs.Gate.{controls};
-ghost use Rattle.gate.specs.Inner.Pins.{by_pins};
 ghost use Rattle.rule.specs.Net.{open_pin};
-ghost use Rattle.card_wiring.specs.Layout.{pins_at};
-ghost use Rattle.card_wiring.specs.Inner.Wires.{Wires, Fitting, Gates};
+ghost use Rattle.card_wiring.specs.Inner.Wires.{Gates};
 ghost use Rattle.step_vars.specs.Variables.{held_in, vars_of, read_in, step_in, history_word, histories_from};
 ghost use Rattle.step_vars.specs.Inner.Variables.{StepTime, Words, start_in};
 
+use card_wiring::Wiring;
 use word::PcSet;
 
 // The variables ahead of all steps: every variable of a net holds its before value, an input's its new one.
@@ -36,62 +34,51 @@ pub fn read_at<'a>(words: &[u64; 256], sets: &'a [u64; 256], p: u16, t: u32, loo
     held.has(set.largest_below(t))
 }
 
-// What the pins of gate g, of type ty, come to by what they read at time t, from its first pin's on.
-fn gather<'a>(
-    vars: &[u64; 256],
-    counts: &'a [u8; 256],
-    places: &'a [u16; 2048],
-    sets: &'a [u64; 256],
-    n: usize,
-    ty: usize,
-    rule: gate::Rule,
-    g: usize,
-    t: u32,
-) -> bool
-    requires wires { Wires counts.now places.now n }
-    requires fitting { Fitting counts.now places.now n }
-    requires g_bound { (g < 256) × (0 < get_or counts.now g 0) × (rule.controlling ≡ controls ty) × (0 < t) }
-    ensures { result
-        ≡ by_pins ty (map (λ p. vars_of vars.now (read_in sets.now t p)) (pins_at counts.now places.now g)) }
-{
-    let count = usize::from(counts[g]);
-    let loose = rule::open_value();
-    let mut known = read_at(vars, sets, places[g * 8], t, loose);
-    for j in 1..count {
-        known = gate::with_pin(
-            ty,
-            rule,
-            known,
-            read_at(vars, sets, places[g * 8 + j], t, loose),
-        );
-    }
-    known
+// What the steps of a card read: its gates' types, its wiring, and its nets' PC-sets.
+#[derive(Clone, Copy)]
+pub struct Circuit<'a> {
+    pub types: &'a [u8; 256],
+    pub wiring: Wiring<'a>,
+    pub sets: &'a [u64; 256],
 }
 
-// One step, gate g at time t: whatever the variables hold, its gate's function of those it reads goes into its own variable.
-pub fn step<'a>(
-    vars: &mut [u64; 256],
-    types: &'a [u8; 256],
-    counts: &'a [u8; 256],
-    places: &'a [u16; 2048],
-    sets: &'a [u64; 256],
-    n: usize,
-    g: usize,
-    t: u32,
-)
-    requires wires { Wires counts.now places.now n }
-    requires fitting { Fitting counts.now places.now n }
-    requires gates { Gates types.now counts.now g }
-    requires step_time { StepTime t × Words vars.old }
-    ensures { vars.new
-        ≡ step_in types.now counts.now places.now sets.now vars.old
-        (record { net = g; time = t }) }
-{
-    let ty = usize::from(types[g]);
-    let rule = gate::rule_of(ty);
-    let all = gather(vars, counts, places, sets, n, ty, rule, g, t);
-    let b = gate::gate_value(rule, all);
-    vars[g] = word::put(vars[g], t, b);
+impl<'a> Circuit<'a> {
+    // One step, gate g at time t: whatever the variables hold, its gate's function of those it reads goes into its own variable.
+    pub fn step(self, vars: &mut [u64; 256], g: usize, t: u32)
+        requires gates { Gates self.types.now self.wiring.counts.now g }
+        requires step_time { StepTime t × Words vars.old }
+        ensures { vars.new
+            ≡ step_in self.entry.types.now self.entry.wiring.counts.now self.entry.wiring.places.now self.entry.sets.now vars.old
+            (record { net = g; time = t }) }
+    {
+        let ty = usize::from(self.types[g]);
+        let rule = gate::rule_of(ty);
+        let loose = rule::open_value();
+        let held = &*vars;
+        let all = self.wiring.gather(ty, rule, g, |p| read_at(held, self.sets, p, t, loose));
+        let b = gate::gate_value(rule, all);
+        vars[g] = word::put(vars[g], t, b);
+    }
+}
+
+// The steps of a card by number: step e is that of gate nets[e] at time times[e].
+#[derive(Clone, Copy)]
+pub struct StepList<'a> {
+    pub nets: &'a [u16; 4096],
+    pub times: &'a [u8; 4096],
+    pub total: usize,
+
+    ghost few: { total ≤ 4096 },
+}
+
+impl<'a> StepList<'a> {
+    // The gate and the time of step e.
+    pub fn step(self, e: usize) -> (usize, u32)
+        requires { e < 4096 }
+        ensures { (result.0 ≡ get_or self.entry.nets.now e 0) × (result.1 ≡ get_or self.entry.times.now e 0) }
+    {
+        (usize::from(self.nets[e]), u32::from(self.times[e]))
+    }
 }
 
 // A net's history from its variables: at each time the variable of the largest element not above it, or of 0. What is known is filled upwards, first from

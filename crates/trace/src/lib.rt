@@ -13,6 +13,7 @@ ghost use Rattle.trace.specs.Traced.{trace_of};
 ghost use Rattle.trace.specs.Inner.Caused.{moved_at, Readable, Readable-prop, first_moved, Caused};
 
 use card::Session;
+use card_wiring::Wiring;
 use rule::{Answer, Refusal};
 use word::PcSet;
 
@@ -21,9 +22,8 @@ use word::PcSet;
 struct Run<'a> {
     words: &'a [u64; 256],
     before: &'a [bool; 256],
-    counts: &'a [u8; 256],
-    places: &'a [u16; 2048],
-    ghost caused: { Caused words.now before.now counts.now places.now } by { Prim.hlevel (props, Readable-prop) },
+    wiring: Wiring<'a>,
+    ghost caused: { Caused words.now before.now wiring.counts.now wiring.places.now } by { Prim.hlevel (props, Readable-prop) },
 }
 
 impl<'a> Run<'a> {
@@ -57,17 +57,16 @@ impl<'a> Run<'a> {
     fn first_pin(&self, g: usize, t: u32) -> Option<u16>
         requires { (g < 256) × (t < 64) }
         ensures { unwrap_or result open_pin
-            ≡ first_moved self.now.words.now self.now.before.now self.now.counts.now self.now.places.now g t }
+            ≡ first_moved self.now.words.now self.now.before.now self.now.wiring.counts.now self.now.wiring.places.now g t }
     {
-        let pins = &self.places[g * 8..g * 8 + usize::from(self.counts[g])];
-        pins.iter().copied().find(|p| self.pin_moved(*p, t))
+        self.wiring.pins(g).iter().copied().find(|p| self.pin_moved(*p, t))
     }
 
     // A net's cause: it writes its net, and, after time 0, asks its gate.
     #[cycle(gate_cause_net_cause)]
     fn net_cause(&self, n: usize, t: u32, room: &mut [u16], at: usize)
         requires { (n < 256) × (t < 64) × (moved_at self.now.before.now self.now.words.now n t ≡ true) × (at + t < length room.old) }
-        ensures { (c : List Net) → pins_at self.now.counts.now self.now.places.now ≡ pins c → room.new
+        ensures { (c : List Net) → pins_at self.now.wiring.counts.now self.now.wiring.places.now ≡ pins c → room.new
             ≡ sets room.old at (causes c (moved_at self.now.before.now self.now.words.now) n t) }
     {
         room[at] = n as u16;
@@ -80,10 +79,10 @@ impl<'a> Run<'a> {
     #[cycle(gate_cause_net_cause)]
     fn gate_cause(&self, g: usize, t: u32, room: &mut [u16], at: usize)
         requires { (g < 256) × (0 < t) × (t < 64) × (moved_at self.now.before.now self.now.words.now g t ≡ true) × (at + t ≤ length room.old) }
-        ensures { (c : List Net) → pins_at self.now.counts.now self.now.places.now ≡ pins c → room.new
+        ensures { (c : List Net) → pins_at self.now.wiring.counts.now self.now.wiring.places.now ≡ pins c → room.new
             ≡ sets room.old at
             (causes c (moved_at self.now.before.now self.now.words.now)
-            (first_moved self.now.words.now self.now.before.now self.now.counts.now self.now.places.now g (t - 1)) (t - 1)) }
+            (first_moved self.now.words.now self.now.before.now self.now.wiring.counts.now self.now.wiring.places.now g (t - 1)) (t - 1)) }
     {
         if let Some(p) = self.first_pin(g, t - 1) {
             self.net_cause(usize::from(p), t - 1, room, at);
@@ -110,8 +109,7 @@ pub fn trace(s: &Session, n: u64, t: u64, room: &mut [u16]) -> Answer
     let run = Run {
         words: &s.words,
         before: &s.before,
-        counts: &s.counts,
-        places: &s.places,
+        wiring: s.wiring(),
     };
     if !run.moved(net, time) {
         return Err(Refusal::NoChange);

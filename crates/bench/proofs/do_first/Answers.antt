@@ -1,11 +1,12 @@
 -- `bench::do_first` meets its contract: the entries' steps are run from the before values and the inputs' new ones; a part leaves the session,
 -- the whole list moves it. Assumes nothing.
-use mathlib.Core.Path.{◌≡◌, refl, sym, subst}
-use native.Mathlib.Omega.{arith}
+use mathlib.Core.Path.{◌≡◌, refl, sym, ◌∙◌, subst}
 use Rattle.lists.specs.Listed.{listed}
 use Rattle.inputs.specs.Inputs.{given}
 use Rattle.card.specs.Held.{HasCard}
-use Rattle.card.proofs.Kept.{card_wires, card_fitting}
+use lib.ListN.{length, take}
+use Rattle.step_run.specs.Runs.{ran}
+use Rattle.step_run.specs.Inner.Runs.{ordered_steps}
 use Rattle.session.specs.Moves.{ends}
 use Rattle.session.proofs.Held.{feeds_fit}
 use Rattle.session.proofs.Moving.{tops_ends}
@@ -13,9 +14,9 @@ use Rattle.step_vars.specs.Inner.Variables.{Words}
 use Rattle.step_run.specs.Vector.{start_vars}
 use Rattle.step_vars.proofs.Stores.{start_words}
 use Rattle.step_run.proofs.Vectors.{start_is}
-use Rattle.bench.proofs.Runs.{total_few, entry_low, number_net, first_doable, part_done, whole_done}
+use Rattle.bench.proofs.Runs.{entry_low, number_net, first_doable, part_done, whole_done}
 use Rattle.bench.proofs.do_first.Goals as goal
-use Rattle.bench.proofs.do_first.Goals.{After-start-vars, After-tops-before, Start}
+use Rattle.bench.proofs.do_first.Goals.{After-run_order-count, After-start-vars, After-tops-before, Start}
 
 card : (c : Start) → HasCard c.args.s.now
 card c = c.requires.good.card (c.requires.good.rest c.requires.rested_value.0).0
@@ -30,31 +31,47 @@ started c = start_is c.args.s.now ((let it : HasCard c.args.s.now = c.requires.g
 pub start-vars-requires : goal.start-vars-requires
 start-vars-requires c = feeds_fit c.args.s.now (card (goal.at.start-vars-requires c).Start) c.args.v.now c.requires.rested_value.1
 
+pub wiring-requires : goal.wiring-requires
+wiring-requires c = card (goal.at.wiring-requires c).Start
+
 pub run_order-count-requires : goal.run_order-count-requires
 run_order-count-requires c =
-    let s = c.args.s.now in
+    let a = c.args in
+    let h = card (goal.at.run_order-count-requires c).Start in
     let t = c.requires.taken in
-    let first = c.requires.first_le_total.0 in record { wires = card_wires s (card (goal.at.run_order-count-requires c).Start); fitting = card_fitting s (card (goal.at.run_order-count-requires c).Start); k_in_bounds = (omega (arith, first, t.long), (λ i l. entry_low s (card (goal.at.run_order-count-requires c).Start) _ _ _ c.args.order.now t i (omega (arith, first, t.long))), subst Words (sym c.start-vars.ensures) (start_words _ _ _)); doable = first_doable s (card (goal.at.run_order-count-requires c).Start) _ _ c.args.total _ t c.args.first first }
+    record {
+      order = (entry_low a.s.now h _ _ a.list.total a.order.now t a.first, subst Words (sym c.start-vars.ensures) (start_words _ _ _));
+      doable = rw c.wiring.ensures.0 (first_doable a.s.now h _ _ a.list.total a.order.now t a.first c.requires.first_le_total.0);
+    }
 
 pub among-done-requires : goal.among-done-requires
 among-done-requires c =
-    let t = c.requires.taken in
-    (omega (arith, c.requires.first_le_total.0, t.long), entry_low c.args.s.now (card (goal.at.among-done-requires c).Start) _ _ _ c.args.order.now t)
+    let a = c.args in entry_low a.s.now (card (goal.at.among-done-requires c).Start) _ _ a.list.total a.order.now c.requires.taken a.first
 
 pub put_bytes-requires : goal.put_bytes-requires
 put_bytes-requires c =
-    let t = c.requires.taken in
-    (total_few c.args.s.now (card (goal.at.put_bytes-requires c).Start) _ _ _ _ t, c.requires.first_le_total.1, number_net c.args.s.now (card (goal.at.put_bytes-requires c).Start) _ _ _ _ t)
+    (c.requires.first_le_total.1, number_net c.args.s.now (card (goal.at.put_bytes-requires c).Start) _ _ _ _ c.requires.taken)
 
-pub returns-then-first-total : goal.returns-then-first-total
-returns-then-first-total c =
+-- what the entries' steps leave, by the session's own arrays
+made : (c : After-run_order-count) → let a = c.args in let s = a.s.now in let entries = take a.first a.order.now in
+    record { words = c.run_order-count.new.vars; count = c.run_order-count.result } ≡ ran s.types s.counts s.places s.sets c.start-vars.result (ordered_steps a.list.nets.now a.list.times.now entries (length entries))
+made c =
     let a = c.args in
-    part_done a.s.now (card (goal.at.returns-then-first-total c).Start) _ _ a.total a.order.now c.requires.taken a.first c.requires.first_le_total.0 (given a.s.now.kinds a.v.now) _ _ _ _ a.room.now _
-    (started (goal.at.returns-then-first-total c).After-start-vars) c.run_order-count.ensures c.among-done.ensures c.put_bytes.ensures c.if-first-total.true
+    let s = a.s.now in
+    let entries = take a.first a.order.now in
+    c.run_order-count.ensures ∙ λ i. ran s.types (c.wiring.ensures.0 i) (c.wiring.ensures.1 i) s.sets c.start-vars.result (ordered_steps a.list.nets.now a.list.times.now entries (length entries))
+
+pub returns-then-first-list : goal.returns-then-first-list
+returns-then-first-list c =
+    let a = c.args in
+    let at = goal.at.returns-then-first-list c in
+    part_done a.s.now (card at.Start) _ _ a.list.total a.order.now c.requires.taken a.first c.requires.first_le_total.0 (given a.s.now.kinds a.v.now) _ _ _ _ a.room.now _
+    (started at.After-start-vars) (made at.After-run_order-count) c.among-done.ensures c.put_bytes.ensures c.if-first-list.true
 
 pub returns : goal.returns
 returns c =
     let a = c.args in
-    whole_done a.s.now (card (goal.at.returns c).Start) _ _ a.total a.order.now c.requires.taken a.first c.requires.first_le_total.0 (given a.s.now.kinds a.v.now) _ _ _ _ a.room.now _
-    (started (goal.at.returns c).After-start-vars) c.run_order-count.ensures c.among-done.ensures c.put_bytes.ensures c.if-first-total.false
-    _ _ _ (before_is (goal.at.returns c).After-tops-before) c.histories_from-words.ensures refl
+    let at = goal.at.returns c in
+    whole_done a.s.now (card at.Start) _ _ a.list.total a.order.now c.requires.taken a.first c.requires.first_le_total.0 (given a.s.now.kinds a.v.now) _ _ _ _ a.room.now _
+    (started at.After-start-vars) (made at.After-run_order-count) c.among-done.ensures c.put_bytes.ensures c.if-first-list.false
+    _ _ _ (before_is at.After-tops-before) c.histories_from-words.ensures refl

@@ -15,7 +15,7 @@ pub returns : goal.returns
 unfolding net_record
 returns c =
     elim c.match-kind.branch [
-      | in-Input w ↦ rw (w.in-Input.is, w.ty-is)
-      | in-Constant w ↦ elim w.in-Constant.is [ inl e ↦ rw (e, w.ty-is) | inr e ↦ rw (e, w.ty-is) ]
-      | in-Gate w ↦ rw (w.in-Gate.is, w.ty-is)
+      | in-Input w ↦ rw (c.from.ensures, w.in-Input.is, w.ty-is)
+      | in-Constant w ↦ elim w.in-Constant.is [ inl e ↦ rw (c.from.ensures, e, w.ty-is) | inr e ↦ rw (c.from.ensures, e, w.ty-is) ]
+      | in-Gate w ↦ rw (c.from.ensures, w.in-Gate.is, w.ty-is)
     ]

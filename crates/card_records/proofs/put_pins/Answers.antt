@@ -11,8 +11,8 @@ loop-j-init c = refl
 pub overflow_add-start : goal.overflow_add-start
 overflow_add-start c = let inside = c.requires.2 (omega arith) in search rules
 
-pub u16_at-requires : goal.u16_at-requires
-u16_at-requires c = let inside = c.requires.2 (omega arith) in omega arith
+pub two_at-requires : goal.two_at-requires
+two_at-requires c = let inside = c.requires.2 (omega arith) in omega arith
 
 pub loop-j-preserved : goal.loop-j-preserved
-loop-j-preserved c = rw (add-one, c.loop-j.invariant, c.u16_at.ensures.0)
+loop-j-preserved c = rw (add-one, c.loop-j.invariant, c.two_at.ensures)

@@ -7,4 +7,4 @@ use Rattle.fields.specs.Inner.Fields.{passed}
 use Rattle.fields.proofs.pass.Given as goal
 
 abbrev pub invariant-loop-gate : goal.invariant-loop-gate
-invariant-loop-gate l = l.words ≡ passed (tops_of l.initial.words) l.types l.counts l.places l.initial.words (listed (λ (k : ℕ). get_or l.order k 0) l.gate-index)
+invariant-loop-gate l = l.words ≡ passed (tops_of l.initial.words) l.types l.wiring.counts.now l.wiring.places.now l.initial.words (listed (λ (k : ℕ). get_or l.order k 0) l.gate-index)

@@ -1,5 +1,5 @@
 -- `host::pack` meets its contract. Assumes nothing.
-use mathlib.Core.Path.{◌∙◌}
+use mathlib.Core.Path.{ap₂, ◌∙◌}
 use Prim.Native.Nat.{◌+◌, ◌*◌, ◌%◌}
 use Rattle.host.specs.Calls.{packed}
 use Rattle.host.proofs.Packing.{counted}
@@ -10,4 +10,4 @@ unfolding packed
 returns c =
     let number = c.from-number.ensures ∙ c.number.ensures in
     let count = c.unwrap_or.ensures ∙ counted c.args.answer in
-    λ i. number i + 256 * (count i % 65536)
+    ap₂ (λ n k. n + 256 * (k % 65536)) number count

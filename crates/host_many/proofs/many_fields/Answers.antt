@@ -11,8 +11,7 @@ use Rattle.lists.specs.Places.{part, area}
 use Rattle.lists.proofs.Places.{place_next}
 use Rattle.fields.specs.Inner.Fields.{advanced}
 use Rattle.card.specs.Held.{HasCard}
-use Rattle.card.proofs.Kept.{card_wires, card_fitting}
-use Rattle.session.proofs.Held.{gates_fit, gates_once, feeds_fit}
+use Rattle.session.proofs.Held.{front_gates, feeds_fit}
 use Rattle.operations.specs.declared.Engine.TheVariants.{Fields}
 use Rattle.host_many.specs.Many.{many_by}
 use Rattle.host_many.proofs.Many.{Turn, turn_has, many_more, many_length, many_vector, left_long, next_words}
@@ -22,6 +21,12 @@ use Rattle.host_many.proofs.many_fields.Goals.{At-loop-done, In-loop-done, Start
 -- a rested session holds a card
 card : (c : Start) → HasCard c.args.s.now
 card c = c.requires.good.card (c.requires.good.rest c.requires.rested_value.0).0
+
+pub wiring-wiring-requires : goal.wiring-wiring-requires
+wiring-wiring-requires c = card (goal.at.wiring-wiring-requires c).Start
+
+pub gate_list-order-requires : goal.gate_list-order-requires
+gate_list-order-requires c = card (goal.at.gate_list-order-requires c).Start
 
 pub loop-done-init : goal.loop-done-init
 unfolding many_by
@@ -55,7 +60,8 @@ advance-requires c =
     let fed = feeds_fit s h (take (l.from + s.inputs - l.from) (drop l.from a.vectors.now)) size in
     let long =
     ap length l.invariant.3 ∙ left_long Fields s c.requires.good c.requires.rested_value.0 a.vectors.now a.room.now c.requires.rested_value.1 l.done (omega (arith, fits)) in
-    record { wires = card_wires s h; fitting = card_fitting s h; gates_bound = gates_fit s h; by_index = gates_once s h; v_len_bound = (fed.0, fed.1, long) }
+    let front = front_gates s h _ c.gate_list-order.ensures in
+    record { gates = λ i l. rw c.wiring-wiring.ensures.0 (front.0 i l); by_index = front.1; v_len_bound = (fed.0, fed.1, long) }
 
 pub put_words-requires : goal.put_words-requires
 put_words-requires c = (
@@ -77,8 +83,9 @@ loop-done-preserved c =
     let room = c.args.room.now in
     let turn = has (goal.at.loop-done-preserved c).In-loop-done in
     let order = listed (λ k. get_or s.order k 0) s.gates in
+    let e = c.wiring-wiring.ensures in
     let next =
-    c.advance.ensures
+    (rw (e.0, e.1, c.gate_list-order.ensures) at c.advance.ensures)
     ∙ ap (advanced s.feeds s.types s.counts s.places order l.words) turn.bytes_are
     ∙ ap (λ ws. advanced s.feeds s.types s.counts s.places order ws (part vs (l.done * s.inputs) s.inputs)) l.invariant.3
     ∙ next_words s c.requires.good c.requires.rested_value.0 vs room c.requires.rested_value.1 l.done turn.bytes_fit in

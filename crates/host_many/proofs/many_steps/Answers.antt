@@ -11,7 +11,6 @@ use Rattle.lists.proofs.Places.{place_next}
 use Rattle.rule.specs.Steps.{step_list}
 use Rattle.card.specs.Session.{card_of}
 use Rattle.card.specs.Held.{HasCard}
-use Rattle.card.proofs.Kept.{card_wires, card_fitting}
 use Rattle.session.proofs.Held.{feeds_fit}
 use Rattle.step_list.proofs.Cards.{list_asked}
 use Rattle.step_run.specs.Inner.Runs.{stepped}
@@ -33,6 +32,12 @@ ready c =
 
 pub put_list-total-requires : goal.put_list-total-requires
 put_list-total-requires c = record { gates_bound = list_asked c.args.s.now (card (goal.at.put_list-total-requires c).Start); nets_len = search rules }
+
+pub wiring-requires : goal.wiring-requires
+wiring-requires c = card (goal.at.wiring-requires c).Start
+
+pub invariant_of-list : goal.invariant_of-list
+invariant_of-list c = record { few = (ready (goal.at.invariant_of-list c).After-put_list-total).few }
 
 pub loop-done-init : goal.loop-done-init
 unfolding many_by
@@ -64,7 +69,7 @@ advance-left-requires c =
     let size = ap length turn.bytes_are ∙ (many_vector a.vectors.now s.inputs l.done c.requires.rested_value.1 turn.bytes_fit).size in
     let fed = feeds_fit s h (take (l.from + s.inputs - l.from) (drop l.from a.vectors.now)) size in
     let put = ready (goal.at.advance-left-requires c).After-put_list-total in
-    record { wires = card_wires s h; fitting = card_fitting s h; total_bound = (put.few, fed.0, fed.1); doable = put.doable }
+    record { v_len_bound = fed; doable = rw c.wiring.ensures.0 put.doable }
 
 pub put_words-requires : goal.put_words-requires
 put_words-requires c = (
@@ -88,7 +93,7 @@ loop-done-preserved c =
     let lent = take (l.from + s.inputs - l.from) (drop l.from vs) in
     let next =
     c.advance-left.ensures
-    ∙ ap (λ ks. stepped s.feeds s.types s.counts s.places s.sets ks l.last lent) (ready (goal.at.loop-done-preserved c).After-put_list-total).named
+    ∙ (λ i. stepped s.feeds s.types (c.wiring.ensures.0 i) (c.wiring.ensures.1 i) s.sets ((ready (goal.at.loop-done-preserved c).After-put_list-total).named i) l.last lent)
     ∙ ap (stepped s.feeds s.types s.counts s.places s.sets (step_list (card_of s)) l.last) turn.bytes_are
     ∙ ap (λ ws. stepped s.feeds s.types s.counts s.places s.sets (step_list (card_of s)) ws (part vs (l.done * s.inputs) s.inputs)) l.invariant.3
     ∙ next_stepped s c.requires.good c.requires.rested_value.0 vs room c.requires.rested_value.1 l.done turn.bytes_fit in

@@ -27,10 +27,10 @@ room : (c : In-loop-t) → c.loop-t.next < 4096
 room c =
     let a = c.args in
     let l = c.loop-t in
-    omega (arith, c.requires.1, times_room a.set a.g l.t l.invariant.0 (omega arith) (l.invariant.2 (omega arith)))
+    omega (arith, c.requires, times_room a.set a.g l.t l.invariant.0 (omega arith) (l.invariant.2 (omega arith)))
 
 pub put_step-requires : goal.put_step-requires
-put_step-requires c = (c.requires.0, omega arith, room (goal.at.put_step-requires c).In-loop-t)
+put_step-requires c = (omega arith, room (goal.at.put_step-requires c).In-loop-t)
 
 pub overflow_add-next : goal.overflow_add-next
 overflow_add-next c = omega (arith, room (goal.at.overflow_add-next c).In-loop-t)

@@ -1,33 +1,35 @@
--- `step_orders::reads_done` meets its contract. The loop's invariant: what the first j pins read is there. Assumes nothing.
-use mathlib.Core.Path.{sym, ◌∙◌}
-use native.Mathlib.Omega.{arith}
-use Rattle.lists.proofs.Listed.{listed_none}
-use Rattle.card_wiring.proofs.Pins.{every_more, pin_fitting}
-use Rattle.step_orders.proofs.Marking.{pins_all, pins_not}
+-- `step_orders::reads_done` meets its contract: `all` goes over the gate's pins. Assumes nothing.
+use Rattle.std.proofs.Common.{rules, ◌≡◌, true, ℕ, ◌<◌, List, ◌⊎◌, inl, inr, ⊎_elim, sym, ◌∙◌, arith, subst}
+use Rattle.std.proofs.lemmas.Iterator.{YieldsList-from_slice}
+use Rattle.std.proofs.lemmas.Iterator.Adapters.{serves_from_places}
+use Rattle.std.proofs.lemmas.Iterator.Search.{all_from_yields_List}
+use borrow.Author.Tests.{tests}
+use Rattle.lists.specs.Entries.{◌∈◌}
+use Rattle.lists.proofs.Order.{at_in}
+use Rattle.rule.specs.Net.{open_pin}
+use Rattle.card_wiring.specs.Layout.{pins_at}
+use Rattle.card_wiring.specs.Inner.Wires.{Wires, all_fit}
+use Rattle.card_wiring.proofs.Pins.{fitting}
+use Rattle.step_orders.proofs.Marking.{pin_done, pins_done}
 use Rattle.step_orders.proofs.reads_done.Goals as goal
 
-pub loop-j-init : goal.loop-j-init
-loop-j-init c =
-    rw (listed_none _)
+-- a pin names a place of the arrays or is open
+readable : (counts places : List ℕ) (n g p : ℕ) → Wires counts places n → all_fit counts places n ≡ true → p ∈ pins_at counts places g → (p < 256) ⊎ (p ≡ open_pin)
+readable counts places n g p w e m = let few = w.few in ⊎_elim (λ h. inl (omega arith)) inr (fitting counts places n w e g p m)
 
-pub read_at-requires : goal.read_at-requires
-read_at-requires c =
-    let e = c.from-j-end.ensures in
-    (c.requires.g_bound.1, pin_fitting c.args.counts.now c.args.places.now c.args.n c.args.g c.loop-j.j c.requires.wires c.requires.fitting (omega (arith, c.requires.wires.narrow c.args.g)))
-
-pub returns-then-not-read_at : goal.returns-then-not-read_at
-returns-then-not-read_at c =
-    let e = c.from-j-end.ensures in
+pub all-requires-clause-callable : goal.all-requires-clause-callable
+all-requires-clause-callable c =
     let a = c.args in
-    pins_not a.done.now a.counts.now a.places.now a.sets.now a.g a.t c.loop-j.j (omega arith) (sym c.read_at.ensures ∙ c.if-not-read_at.true)
-
-pub loop-j-preserved : goal.loop-j-preserved
-loop-j-preserved c =
-    let l = c.loop-j in
-    every_more _ _ l.j l.invariant (sym c.read_at.ensures ∙ c.if-not-read_at.false)
+    let w = a.circuit.wiring in
+    let late = c.requires.1 in
+    let ps = pins_at w.counts.now w.places.now a.g in
+    serves_from_places (YieldsList-from_slice ps (cc)) (λ x q k. search rules)
+    (λ x k l e. let fits = readable w.counts.now w.places.now w.nets a.g x.now w.wires w.fits (subst (λ (y : ℕ). y ∈ ps) (sym e) (at_in ps k x.now l)) in search rules)
 
 pub returns : goal.returns
 returns c =
-    let e = c.from-j-end.ensures in
     let a = c.args in
-    pins_all a.done.now a.counts.now a.places.now a.sets.now a.g a.t c.loop-j.j (omega arith) c.loop-j.invariant
+    let w = a.circuit.wiring in
+    let ps = pins_at w.counts.now w.places.now a.g in
+    all_from_yields_List (pin_done a.done.now a.circuit.sets.now a.t) _ _ c.all.result c.all.ensures.ran (YieldsList-from_slice ps (cc)) (λ x b q k. search (rules, tests))
+    ∙ pins_done a.done.now w.counts.now w.places.now a.circuit.sets.now a.g a.t

@@ -15,13 +15,14 @@ started c = let a = c.args in c.start-vars.ensures ∙ ap (λ b. start_in b a.fe
 
 pub run_list-count-requires : goal.run_list-count-requires
 run_list-count-requires c =
-    record { wires = c.requires.wires; fitting = c.requires.fitting; total_bound = (c.requires.total_bound.0, subst Words (sym (started (goal.at.run_list-count-requires c).After-start-vars)) (start_words _ _ _)); doable = c.requires.doable }
+    record { words = subst Words (sym (started (goal.at.run_list-count-requires c).After-start-vars)) (start_words _ _ _); doable = c.requires.doable }
 
 pub returns : goal.returns
 unfolding stepped
 returns c =
     let a = c.args in
-    let ks = steps_named a.nets.now a.times.now a.total in
-    let along = c.run_list-count.ensures ∙ ap (λ vars. ran a.types.now a.counts.now a.places.now a.sets.now vars ks) (started (goal.at.returns c).After-start-vars) in
-    ap (λ ws. record { words = ws; count = c.run_list-count.result }) c.histories_from-next.ensures
-    ∙ ap (λ (x : Ran). record { words = histories_from a.sets.now x.words; count = x.count }) along
+    let k = a.circuit in
+    let ks = steps_named a.list.nets.now a.list.times.now a.list.total in
+    let along = c.run_list-count.ensures ∙ ap (λ vars. ran k.types.now k.wiring.counts.now k.wiring.places.now k.sets.now vars ks) (started (goal.at.returns c).After-start-vars) in
+    ap (λ ws. record { words = ws; count = c.run_list-count.result }) c.histories_from-words.ensures
+    ∙ ap (λ (x : Ran). record { words = histories_from k.sets.now x.words; count = x.count }) along

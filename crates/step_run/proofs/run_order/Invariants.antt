@@ -5,4 +5,4 @@ use Rattle.step_run.specs.Inner.Runs.{ordered_steps}
 use Rattle.step_run.proofs.run_order.Given as goal
 
 abbrev pub invariant-loop-entry : goal.invariant-loop-entry
-invariant-loop-entry l = Words l.vars × (record { words = l.vars; count = l.entry-index } ≡ ran l.types l.counts l.places l.sets l.initial.vars (ordered_steps l.nets l.times l.order l.entry-index)) × (l.done ≡ l.entry-index)
+invariant-loop-entry l = Words l.vars × (record { words = l.vars; count = l.entry-index } ≡ ran l.circuit.types.now l.circuit.wiring.counts.now l.circuit.wiring.places.now l.circuit.sets.now l.initial.vars (ordered_steps l.list.nets.now l.list.times.now l.order l.entry-index)) × (l.done ≡ l.entry-index)

@@ -1,10 +1,9 @@
 -- `step_run::run_steps` meets its contract: it goes along the card's list. Assumes nothing.
-use mathlib.Core.Path.{refl, ap, ◌∙◌}
+use mathlib.Core.Path.{refl, ◌∙◌}
 use Rattle.rule.specs.Steps.{step_list}
 use Rattle.inputs.specs.Inputs.{given}
 use Rattle.card.specs.Session.{card_of}
 use Rattle.card.specs.Held.{HasCard}
-use Rattle.card.proofs.Kept.{card_wires, card_fitting}
 use Rattle.session.proofs.Held.{feeds_fit}
 use Rattle.session.proofs.Moving.{tops_ends}
 use Rattle.step_list.proofs.Cards.{list_asked}
@@ -25,16 +24,21 @@ ready c = list_ready c.args.s.now ((let it : HasCard c.args.s.now = c.requires.g
 pub put_list-total-requires : goal.put_list-total-requires
 put_list-total-requires c = record { gates_bound = list_asked c.args.s.now (card (goal.at.put_list-total-requires c).Start); nets_len = search rules }
 
+pub wiring-requires : goal.wiring-requires
+wiring-requires c = card (goal.at.wiring-requires c).Start
+
+pub invariant_of-list : goal.invariant_of-list
+invariant_of-list c = record { few = (ready (goal.at.invariant_of-list c).After-put_list-total).few }
+
 pub advance-left-requires : goal.advance-left-requires
 advance-left-requires c =
     let s = c.args.s.now in
-    let h = card (goal.at.advance-left-requires c).Start in
-    let fed = feeds_fit s h c.args.v.now c.requires.rested_value.1 in
-    record { wires = card_wires s h; fitting = card_fitting s h; total_bound = ((ready (goal.at.advance-left-requires c).After-put_list-total).few, fed.0, fed.1); doable = (ready (goal.at.advance-left-requires c).After-put_list-total).doable }
+    let at = goal.at.advance-left-requires c in
+    record { v_len_bound = feeds_fit s (card at.Start) c.args.v.now c.requires.rested_value.1; doable = rw c.wiring.ensures.0 (ready at.After-put_list-total).doable }
 
 pub returns : goal.returns
 returns c =
     let s = c.args.s.now in
     let v = c.args.v.now in
-    let left = c.advance-left.ensures ∙ ap (λ ks. stepped s.feeds s.types s.counts s.places s.sets ks s.words v) (ready (goal.at.returns c).After-put_list-total).named ∙ stepped_run s (card (goal.at.returns c).Start) v c.requires.rested_value.1 (step_list (card_of s)) in
+    let left = c.advance-left.ensures ∙ (λ i. stepped s.feeds s.types (c.wiring.ensures.0 i) (c.wiring.ensures.1 i) s.sets ((ready (goal.at.returns c).After-put_list-total).named i) s.words v) ∙ stepped_run s (card (goal.at.returns c).Start) v c.requires.rested_value.1 (step_list (card_of s)) in
     run_made s (given s.kinds v) (step_list (card_of s)) _ _ _ left (tops_ends s _ c.tops-s.ensures) refl

@@ -4,6 +4,7 @@ use mathlib.Core.Path.{◌≡◌, sym, ◌∙◌}
 use mathlib.Core.Bool.{true, false}
 use Prim.Native.Nat.{◌<◌}
 use native.Mathlib.Omega.{arith}
+use Rattle.card_wiring.specs.Layout.{pins_at}
 use Rattle.card.specs.Session.{card_of}
 use Rattle.card.proofs.Kept.{few, card_pins}
 use Rattle.trace.specs.Inner.Caused.{moved_at}
@@ -50,7 +51,7 @@ returns-then-room-length c =
 pub invariant_of-run : goal.invariant_of-run
 invariant_of-run c =
     let s = c.args.s.now in
-    record { caused = session_caused s (holds s c.requires (ready (goal.at.invariant_of-run c).Else-t-gt63)) (c.requires.rest (ready (goal.at.invariant_of-run c).Else-t-gt63)).1 }
+    record { caused = rw (c.wiring.ensures.0, c.wiring.ensures.1) (session_caused s (holds s c.requires (ready (goal.at.invariant_of-run c).Else-t-gt63)) (c.requires.rest (ready (goal.at.invariant_of-run c).Else-t-gt63)).1) }
 
 pub net_cause-requires : goal.net_cause-requires
 net_cause-requires c =
@@ -60,4 +61,4 @@ pub returns : goal.returns
 returns c =
     let a = c.args in
     traced a.s.now a.n a.t a.room.now (ready (goal.at.returns c).Else-t-gt63) (omega (arith, c.if-s-n.false)) (changed_then_lem a.s.now a.n a.t (omega (arith, c.if-t-gt63.false)) true (changed (goal.at.returns c).Else-not-moved))
-    (omega (arith, c.if-room-length.false)) _ (c.net_cause.ensures (card_of a.s.now) (card_pins a.s.now (holds a.s.now c.requires (ready (goal.at.returns c).Else-t-gt63))))
+    (omega (arith, c.if-room-length.false)) _ (c.net_cause.ensures (card_of a.s.now) ((λ i. pins_at (c.wiring.ensures.0 i) (c.wiring.ensures.1 i)) ∙ card_pins a.s.now (holds a.s.now c.requires (ready (goal.at.returns c).Else-t-gt63))))
