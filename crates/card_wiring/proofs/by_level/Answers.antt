@@ -1,6 +1,4 @@
 -- `card_wiring::by_level` meets its contract. The loop's invariant: the order has the levels below l. Assumes nothing.
-use mathlib.Core.Path.{◌≡◌}
-use Prim.Native.Nat.{◌+◌, ◌-◌}
 use native.Mathlib.Omega.{arith}
 use Rattle.card_wiring.proofs.Orders.{ordered_none}
 use Rattle.card_wiring.proofs.by_level.Goals as goal

@@ -1,6 +1,6 @@
 -- `card_wiring::with_level` meets its contract. The loop's invariant: the order has the lower levels and, of level l, the nets so far. Assumes nothing.
 use mathlib.Core.Path.{◌≡◌, sym, ap, ◌∙◌}
-use mathlib.Core.List.{◌++◌, append-nil}
+use mathlib.Core.List.{◌++◌}
 use Prim.Native.Nat.{◌-◌}
 use native.Mathlib.Omega.{arith}
 use lib.Dec.{eqb}
