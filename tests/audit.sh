@@ -64,6 +64,7 @@ seeded crates/rule/specs/Flag.antt '0,/^use /s//use Rattle.trace.specs.Inner.Cau
 seeded crates/demands/proofs/Demands.antt '0,/^use /s//use Rattle.trace.specs.Inner.Caused\n&/' 'the demands speak of inner definitions (Demands.antt)'
 seeded crates/demands/proofs/Results.antt '0,/^use /s//use Rattle.trace.specs.Inner.Caused\n&/' 'the demands speak of inner definitions (Results.antt)'
 seeded crates/trace/src/lib.rt 's/{ Good s.now }/{ Readable s.now }/' 'the contract of trace::trace speaks of Readable, which is inner'
+seeded crates/sheet_pieces/src/lib.rt 's/^    pub vectors: usize,$/&\n    ghost few: { vectors < 65536 },/' 'sheet_pieces::next takes a Sheet, whose ghost fields ask something'
 seeded docs/CONTRACTS.md 's/^| `trace` (trace) |/| `traced` (trace) |/' 'docs/CONTRACTS.md has trace::traced, and there are 0'
 seeded crates/text/specs/Inner/Put.antt 's/`put_then`/put_then/' 'text/specs/Inner/Put.antt names no law that ties it'
 moved crates/gate/specs/Gate.antt crates/gate/specs/Other/Gate.antt 'gate/specs has a folder, Other'

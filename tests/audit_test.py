@@ -4,9 +4,9 @@
    docs/AUDIT.md says, all of them in the programs; in the impl of a trait the trait's `ensures`, or the impl's ghost member, stands for one.
 2. docs/AUDIT.md has every definition of specs/ at its crate and file, and no other. Definitions are written in four ways and in no other; that there is one proof of
    something at most (`IsProp`), which a ghost field needs, is no definition. A file of specs/Inner says that it is inner and names a law that ties it, which is there.
-   Neither a definition outside Inner, nor what demands/proofs says, nor the contract of an operation that docs/CONTRACTS.md calls public speaks of an inner definition;
-   and every other definition is one that these, the examples, the laws of the host's calls, a function below the operations or a theorem of docs/CONTRACTS.md are built
-   from.
+   Neither a definition outside Inner, nor what demands/proofs says, nor the contract of an operation that docs/CONTRACTS.md calls public speaks of an inner definition,
+   and no such operation takes a type with a ghost field; and every other definition is one that these, the examples, the laws of the host's calls, a function below the
+   operations or a theorem of docs/CONTRACTS.md are built from.
 3. In the README and in every document of docs/ but the two that name what was, docs/PORT.md and docs/DESIGN-PASS.md, names with a path behind them are defined in that
    file, and every other name occurs somewhere in the tree, but for docs/REQUESTS.md, which names what is still to come. docs/CONTRACTS.md names every edit and every
    theorem once, and a public operation has two edits at least, by what these say that they are of. docs/figures and docs/drawing would write what stands.
@@ -174,6 +174,13 @@ for file in sorted((crates / "demands/proofs").glob("**/*.antt")):
         faults.append(f"the demands speak of inner definitions ({file.name})")
 
 contracts = (root / "docs/CONTRACTS.md").read_text(encoding="utf-8")
+bodies = {}  # of each struct, its text
+for crate in listed:
+    for file in sorted((crates / crate / "src").glob("**/*.rt")):
+        bodies |= dict(re.findall(r"^(?:pub )?struct (\w+)[^;{]*\{\n(.*?)^\}", re.sub(r"//.*", "", file.read_text(encoding="utf-8")), flags=re.M | re.S))
+narrow = {name for name, body in bodies.items() if re.search(r"^ *ghost \w+: ", body, flags=re.M)}  # what has a ghost field, or a field that has one
+while more := {name for name, body in bodies.items() if narrow & set(re.findall(r"\w+", body))} - narrow:
+    narrow |= more
 
 
 def said_of(title):
@@ -194,6 +201,8 @@ def said_of(title):
             here = cited(contract, names)
             cites |= here
             if title == "Public operations":
+                takes = re.split(r"^ *(?:requires|ensures) ", contract, flags=re.M)[0]
+                faults.extend(f"{crate}::{name} takes a {kind}, whose ghost fields ask something" for kind in sorted(narrow & set(re.findall(r"\w+", takes))))
                 faults.extend(f"the contract of {crate}::{name} speaks of {cite[2]}, which is inner" for cite in sorted(here) if cite[1].startswith("Inner"))
     return functions, cites
 

@@ -37,6 +37,7 @@ use Rattle.operations.specs.declared.Engine.{Engine}
 use Rattle.operations.specs.declared.Engine.TheVariants.{Fields, Steps}
 use Rattle.operations.specs.Operated.{vector_by}
 use Rattle.operations.proofs.Engines.{same_session, by_good, count_by, by_takes}
+use Rattle.host_many.specs.Inner.Words.{words_by}
 use Rattle.host_many.specs.Many.{many_by, many_judged, kept_at, kept_many}
 
 -- one vector more
@@ -215,6 +216,20 @@ module _ (s : Session) (g : Good s) (r : s.rested ≡ true) (vs room : List ℕ)
       ∙ ap (λ c. stepped z.feeds z.types z.counts z.places z.sets (step_list c) z.words v) (sym (same_card s true z f.same))
       ∙ stepped_run z f.card v f.vector.size (step_list (card_of z))
       ∙ sym (ap (λ m. record { words = m.session.words; count = answer_count m.answer }) (steps_takes z v f.same.rests f.vector))
+
+  -- by either engine, with its count
+  pub next_by : (engine : Engine) (j : ℕ) → j * s.inputs + s.inputs ≤ length vs
+      → (let z = (many_by engine s vs s.inputs j room).session in
+      let v = part vs (j * s.inputs) s.inputs in
+      let m = vector_by engine z v in
+      words_by engine s z.words v ≡ record { words = m.session.words; count = answer_count m.answer })
+  next_by Fields j l =
+      let z = (many_by Fields s vs s.inputs j room).session in
+      let v = part vs (j * s.inputs) s.inputs in
+      let f = found Fields s g r vs room fits j l in
+      let counted : 0 ≡ answer_count (vector_of z v).answer = sym (ap (λ m. answer_count m.answer) (vector_takes z v f.same.rests f.vector)) in
+      λ i. record { words = next_words j l i; count = counted i }
+  next_by Steps j l = next_stepped j l
 
   -- by fields the count is 0
   pub fields_count : (k : ℕ) → k * s.inputs ≤ length vs → (many_by Fields s vs s.inputs k room).count ≡ 0

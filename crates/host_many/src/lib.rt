@@ -3,11 +3,15 @@
 
 ghost use Rattle.std.specs.Prelude.{◌≡◌, true, ◌+◌, ◌*◌, ◌≤◌, length};
 ghost use Rattle.lists.specs.Entries.{every};
-ghost use Rattle.lists.specs.Places.{area};
+ghost use Rattle.rule.specs.Steps.{step_list};
 ghost use Rattle.inputs.specs.Inputs.{byte_fits};
 ghost use Rattle.session.specs.Good.{Good};
-ghost use Rattle.operations.specs.declared.Engine.TheVariants.{Fields, Steps};
+ghost use Rattle.card.specs.Session.{card_of};
+ghost use Rattle.card.specs.Held.{HasCard};
+ghost use Rattle.step_list.specs.Inner.Listing.{steps_named};
+ghost use Rattle.operations.specs.declared.Engine.TheVariants.{Steps};
 ghost use Rattle.host_bytes.specs.Layout.{session_length};
+ghost use Rattle.host_many.specs.Inner.Words.{words_by};
 ghost use Rattle.host_many.specs.Many.{many_by, many_judged, kept_at, kept_many};
 
 use card::Session;
@@ -15,97 +19,48 @@ use operations::Engine;
 use rule::{Answer, Refusal};
 use step_vars::{Circuit, StepList};
 
-// The words of a history in lent room from a place on, so many of them.
-fn put_words(words: &[u64; 256], n: usize, room: &mut [u64], at: usize)
-    requires { (n ≤ 256) × (at + n ≤ length room.old) }
-    ensures { room.new ≡ area room.old at (at + n) words.now }
+// The card's step list where an engine goes along it, made once for many vectors; its length is handed back.
+fn list_for(engine: Engine, s: &Session, nets: &mut [u16; 4096], times: &mut [u8; 4096]) -> usize
+    requires held { HasCard s.now }
+    requires nets_len { (length nets.old ≡ 4096) × (length times.old ≡ 4096) }
+    ensures few { result ≤ 4096 }
+    ensures listed { engine ≡ Steps → steps_named nets.new times.new result ≡ step_list (card_of s.now) }
 {
-    let mut i: usize = 0;
-    while i < n {
-        room[at + i] = words[i];
-        i += 1;
+    match engine {
+        Engine::Fields => 0,
+        Engine::Steps => step_list::put_list(nets, times, &s.sets, &s.order, s.gates),
     }
 }
 
-// Vectors by fields one after another, the first k of them, a byte an input each; the words of each history go to lent room, a word a net. Only the words
-// change from one vector to the next, so the session is not made again in between.
-fn many_fields(s: &Session, vectors: &[u8], k: usize, room: &mut [u64])
-    requires good { Good s.now }
-    requires rested_value { (s.now.rested ≡ true) × (every byte_fits vectors.now ≡ true) }
-    requires inputs_in_bounds { (k * s.now.inputs ≤ length vectors.now) × (s.now.nets ≤ 256) × (k * s.now.nets ≤ length room.old) }
-    ensures { room.new ≡ (many_by Fields s.now vectors.now s.now.inputs k room.old).words }
+// A vector by an engine, in the words that the one before it left; the count that comes with 0 is handed back. Only the words go from one vector to the next, so
+// the session is not made again in between.
+// a match and no closure: a closure for each engine would have to promise the same equation, and be no plainer
+fn run_one(engine: Engine, s: &Session, list: StepList, words: &mut [u64; 256], v: &[u8]) -> usize
+    requires held { HasCard s.now × (length v.now ≡ s.now.inputs) × (length words.old ≡ 256) }
+    requires listed { engine ≡ Steps → steps_named list.nets.now list.times.now list.total ≡ step_list (card_of s.now) }
+    ensures { record { words = words.new; count = result } ≡ words_by engine s.now words.old v.now }
 {
-    let n = s.inputs;
-    let nets = s.nets;
-    let wiring = s.wiring();
-    let order = s.gate_list();
-    let mut words = s.words;
-    let mut done: usize = 0;
-    let mut from: usize = 0;
-    let mut at: usize = 0;
-    while done < k {
-        fields::advance(
-            &mut words,
-            &s.feeds,
-            &s.types,
-            wiring,
-            order,
-            &vectors[from..from + n],
-        );
-        put_words(&words, nets, room, at);
-        done += 1;
-        from += n;
-        at += nets;
+    match engine {
+        Engine::Fields => {
+            fields::advance(words, &s.feeds, &s.types, s.wiring(), s.gate_list(), v);
+            0
+        }
+        Engine::Steps => {
+            let circuit = Circuit {
+                types: &s.types,
+                wiring: s.wiring(),
+                sets: &s.sets,
+            };
+            let left = step_run::advance(words, &s.feeds, circuit, list, v);
+            let next = left.words;
+            *words = next;
+            left.count
+        }
     }
 }
 
-// The same by steps, along a list that is made once; what comes back is the count of the steps done for the last of them.
-fn many_steps(s: &Session, vectors: &[u8], k: usize, room: &mut [u64]) -> usize
-    requires good { Good s.now }
-    requires rested_value { (s.now.rested ≡ true) × (every byte_fits vectors.now ≡ true) }
-    requires inputs_in_bounds { (k * s.now.inputs ≤ length vectors.now) × (s.now.nets ≤ 256) × (k * s.now.nets ≤ length room.old) }
-    ensures room_after { room.new ≡ (many_by Steps s.now vectors.now s.now.inputs k room.old).words }
-    ensures value { result ≡ (many_by Steps s.now vectors.now s.now.inputs k room.old).count }
-{
-    let n = s.inputs;
-    let nets = s.nets;
-    let mut step_nets = [0u16; 4096];
-    let mut step_times = [0u8; 4096];
-    let total = step_list::put_list(&mut step_nets, &mut step_times, &s.sets, &s.order, s.gates);
-    let circuit = Circuit {
-        types: &s.types,
-        wiring: s.wiring(),
-        sets: &s.sets,
-    };
-    let list = StepList {
-        nets: &step_nets,
-        times: &step_times,
-        total,
-    };
-    let mut last = s.words;
-    let mut count: usize = 0;
-    let mut done: usize = 0;
-    let mut from: usize = 0;
-    let mut at: usize = 0;
-    while done < k {
-        let left = step_run::advance(
-            &last,
-            &s.feeds,
-            circuit,
-            list,
-            &vectors[from..from + n],
-        );
-        last = left.words;
-        count = left.count;
-        put_words(&last, nets, room, at);
-        done += 1;
-        from += n;
-        at += nets;
-    }
-    count
-}
-
-// Vectors by an engine, one after another: the words of each go to lent room, and the count that comes with 0 is handed back.
+// Vectors by an engine, one after another, a byte an input each: the words of each history go to lent room, a word a net, and the count that comes with 0 is
+// handed back.
 pub fn run_many(engine: Engine, s: &Session, vectors: &[u8], k: usize, room: &mut [u64]) -> usize
     requires good { Good s.now }
     requires rested_value { (s.now.rested ≡ true) × (every byte_fits vectors.now ≡ true) }
@@ -113,13 +68,25 @@ pub fn run_many(engine: Engine, s: &Session, vectors: &[u8], k: usize, room: &mu
     ensures room_after { room.new ≡ (many_by engine s.now vectors.now s.now.inputs k room.old).words }
     ensures value { result ≡ (many_by engine s.now vectors.now s.now.inputs k room.old).count }
 {
-    match engine {
-        Engine::Fields => {
-            many_fields(s, vectors, k, room);
-            0
-        }
-        Engine::Steps => many_steps(s, vectors, k, room),
+    let n = s.inputs;
+    let nets = s.nets;
+    let mut step_nets = [0u16; 4096];
+    let mut step_times = [0u8; 4096];
+    let total = list_for(engine, s, &mut step_nets, &mut step_times);
+    let list = StepList {
+        nets: &step_nets,
+        times: &step_times,
+        total,
+    };
+    let mut words = s.words;
+    let mut count: usize = 0;
+    for done in 0..k {
+        let from = done * n;
+        let at = done * nets;
+        count = run_one(engine, s, list, &mut words, &vectors[from..from + n]);
+        room[at..at + nets].copy_from_slice(&words[..nets]);
     }
+    count
 }
 
 // Whether so many bytes are vectors for the session, and there is room for the words: 12, 10, 11, 18, or how many vectors they are.
