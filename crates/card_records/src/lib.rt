@@ -112,7 +112,7 @@ impl Kind {
     }
 }
 
-// Whether a gate type is known and may have so many pins.
+// Whether a gate type is known and may have so many pins. It stays a number, since it indexes the table of `gate`.
 fn type_fits(ty: usize, count: usize) -> bool
     ensures { result ≡ type_fits ty count }
 {

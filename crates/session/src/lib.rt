@@ -24,7 +24,12 @@ fn run_fields(s: &mut Session, v: &[u8])
         nets: s.nets,
     };
     fields::advance(
-        &mut s.words, &s.feeds, &s.types, wiring, &s.order[..s.gates], v,
+        &mut s.words,
+        &s.feeds,
+        &s.types,
+        wiring,
+        &s.order[..s.gates],
+        v,
     );
 }
 

@@ -37,7 +37,11 @@ fn reads_done(done: &[u64; 256], circuit: Circuit, g: usize, t: u32) -> bool
         (reads_in circuit.entry.wiring.counts.now circuit.entry.wiring.places.now circuit.entry.sets.now (record { net = g; time = t })) }
 {
     let sets = circuit.sets;
-    circuit.wiring.pins(g).iter().all(|p| step_vars::read_at(done, sets, *p, t, true))
+    circuit
+        .wiring
+        .pins(g)
+        .iter()
+        .all(|p| step_vars::read_at(done, sets, *p, t, true))
 }
 
 // Whether no step of an order stands before one that it reads.

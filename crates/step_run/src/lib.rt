@@ -24,7 +24,12 @@ pub struct Advanced {
 }
 
 // The entries of an order of step numbers, one step after another; the count of the steps done is handed back.
-pub fn run_order<'a>(vars: &mut [u64; 256], circuit: Circuit, list: StepList, order: &'a [u16]) -> usize
+pub fn run_order<'a>(
+    vars: &mut [u64; 256],
+    circuit: Circuit,
+    list: StepList,
+    order: &'a [u16],
+) -> usize
     requires order { ((i : ℕ) → i < length order.now → get_or order.now i 0 < 4096) × Words vars.old }
     requires doable { Doable circuit.types.now circuit.wiring.counts.now (ordered_steps list.nets.now list.times.now order.now (length order.now)) }
     ensures { record { words = vars.new; count = result }
@@ -40,7 +45,8 @@ pub fn run_order<'a>(vars: &mut [u64; 256], circuit: Circuit, list: StepList, or
     done
 }
 
-// The steps along the list, counted from 0.
+// The steps along the list, counted from 0. It and `run_order` differ in where a step's number comes from, and share the two calls of a turn: one function
+// of both would take a closure for the number, and ask of it what the two loops show, which is no plainer.
 pub fn run_list(vars: &mut [u64; 256], circuit: Circuit, list: StepList) -> usize
     requires words { Words vars.old }
     requires doable { Doable circuit.types.now circuit.wiring.counts.now (steps_named list.nets.now list.times.now list.total) }
@@ -59,7 +65,13 @@ pub fn run_list(vars: &mut [u64; 256], circuit: Circuit, list: StepList) -> usiz
 
 // The words that a vector leaves along a list of steps, of words that end in the before values, and the count of the steps done. The variables start with
 // the before values and the inputs' new ones.
-pub fn advance<'a>(words: &'a [u64; 256], feeds: &'a [u16; 256], circuit: Circuit, list: StepList, v: &'a [u8]) -> Advanced
+pub fn advance<'a>(
+    words: &'a [u64; 256],
+    feeds: &'a [u16; 256],
+    circuit: Circuit,
+    list: StepList,
+    v: &'a [u8],
+) -> Advanced
     requires v_len_bound { (length v.now ≤ 256) × ((j : ℕ) → get_or feeds.now j 0 < 256) }
     requires doable { Doable circuit.types.now circuit.wiring.counts.now (steps_named list.nets.now list.times.now list.total) }
     ensures { result

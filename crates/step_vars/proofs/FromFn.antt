@@ -9,7 +9,6 @@ use Rattle.lists.proofs.Listed.{is_listed}
 
 module _ {F B : Type 0} (g : Mut F (ℕ × Unit {0}) B) (f : F) (h : ℕ → B)
     (same : (i : ℕ) (r : B) (q : F) → Called g f (i, tt) r q → (q ≡ f) × (r ≡ h i)) where
-
   made_from : (ys : List B) (p : F) (i n : ℕ) → p ≡ f → IsFromFnResultFrom g p ys i n → (k : ℕ) (d : B) → i ≤ k → k < i + n → get_or ys k d ≡ h k
   made_from ys p i zero e m k d a b = absurd (omega arith)
   made_from ys p i (suc n) e m k d a b =

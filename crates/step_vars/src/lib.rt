@@ -55,7 +55,9 @@ impl<'a> Circuit<'a> {
         let rule = gate::rule_of(ty);
         let loose = rule::open_value();
         let held = &*vars;
-        let all = self.wiring.gather(ty, rule, g, |p| read_at(held, self.sets, p, t, loose));
+        let all = self
+            .wiring
+            .gather(ty, rule, g, |p| read_at(held, self.sets, p, t, loose));
         let b = gate::gate_value(rule, all);
         vars[g] = word::put(vars[g], t, b);
     }

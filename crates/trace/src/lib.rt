@@ -59,7 +59,11 @@ impl<'a> Run<'a> {
         ensures { unwrap_or result open_pin
             ≡ first_moved self.now.words.now self.now.before.now self.now.wiring.counts.now self.now.wiring.places.now g t }
     {
-        self.wiring.pins(g).iter().copied().find(|p| self.pin_moved(*p, t))
+        self.wiring
+            .pins(g)
+            .iter()
+            .copied()
+            .find(|p| self.pin_moved(*p, t))
     }
 
     // A net's cause: it writes its net, and, after time 0, asks its gate.

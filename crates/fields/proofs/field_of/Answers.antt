@@ -28,7 +28,7 @@ returns c =
     let pins = pins_at w.counts.now w.places.now a.g in
     let word : ℕ → ℕ → ℕ = λ loose p. at_pin loose (λ m. get_or a.words.now m 0) p in
     let all = c.gather-all.ensures (λ p t. pin_bit a.words.now t p)
-        (λ p v h t. let own : v ≡ word c.open_word-open.result p = search rules in ap (λ x. bit x t) (own ∙ ap (λ loose. word loose p) c.open_word-open.ensures)) in
+    (λ p v h t. let own : v ≡ word c.open_word-open.result p = search rules in ap (λ x. bit x t) (own ∙ ap (λ loose. word loose p) c.open_word-open.ensures)) in
     field_made a.words.now w.counts.now w.places.now a.g c.top.result c.rule_of-rule.result.inversion c.from-ty.result c.gather-all.result c.field.result
     (λ l. c.requires.single (omega (arith, ty, l))) c.rule_of-rule.ensures.1 all (omega (arith, c.field.type_inv)) c.field.ensures
     ∙ ap₂ (λ low k. field_of low k (map (pin_word a.words.now) pins)) c.top.ensures ty

@@ -47,7 +47,7 @@ loop-gate-preserved c =
     let own = own_top (tops_of a.words.now) a.types.now a.wiring.counts.now a.wiring.places.now a.words.now f l.gate-index _ _ (gated (goal.at.loop-gate-preserved c).After-from-g).net
     (λ j b q. c.requires.by_index j l.gate-index b t (q ∙ e)) l.invariant in
     passed_more (tops_of a.words.now) a.types.now a.wiring.counts.now a.wiring.places.now a.words.now a.wiring.nets w.wires.few (fitting w.counts.now w.places.now w.nets w.wires w.fits) f l.gate-index (λ j h. (c.requires.gates j (omega arith)).net) _ _ _ e l.invariant
-          (c.field_of.ensures ∙ ap (λ low. field_of low (get_or a.types.now g 0) (map (pin_word l.words) (pins_at a.wiring.counts.now a.wiring.places.now g))) own)
+    (c.field_of.ensures ∙ ap (λ low. field_of low (get_or a.types.now g 0) (map (pin_word l.words) (pins_at a.wiring.counts.now a.wiring.places.now g))) own)
 
 pub returns : goal.returns
 returns c =

@@ -25,7 +25,7 @@ returns c =
     let all = c.gather-all in
     let b = c.gate_value-b in
     let value = all.ensures (λ p t. pin_value a.vars.now a.self.sets.now a.t p)
-        (λ p v h t. let own : v ≡ held_in c.open_value-loose.result a.vars.now (read_in a.self.sets.now a.t p) = search rules in own ∙ ap (λ loose. held_in loose a.vars.now (read_in a.self.sets.now a.t p)) c.open_value-loose.ensures) 0 in
+    (λ p v h t. let own : v ≡ held_in c.open_value-loose.result a.vars.now (read_in a.self.sets.now a.t p) = search rules in own ∙ ap (λ loose. held_in loose a.vars.now (read_in a.self.sets.now a.t p)) c.open_value-loose.ensures) 0 in
     step_made a.self.types.now w.counts.now w.places.now a.self.sets.now a.vars.now a.g a.t
     c.put.result b.result c.requires.gates.net c.requires.step_time.1
     (value_made a.vars.now w.counts.now w.places.now a.self.sets.now a.g a.t a.self.types.now ty.result rule.result.inversion all.result b.result c.requires.gates ty.ensures rule.ensures.1 value (b.ensures 0 (omega arith)))
