@@ -20,19 +20,6 @@ use word::PcSet;
 // The value of a pin that names no net.
 pub const OPEN: u16 = 65535;
 
-// For the crates above, until they write `usize::from`.
-pub fn wide(x: u8) -> usize
-    ensures { result ≡ x }
-{
-    usize::from(x)
-}
-
-pub fn wide16(x: u16) -> usize
-    ensures { result ≡ x }
-{
-    usize::from(x)
-}
-
 // What the pins of net g name.
 fn pins_of<'a>(counts: &'a [u8; 256], places: &'a [u16; 2048], g: usize) -> &'a [u16]
     requires narrow { get_or counts.now g 0 ≤ 8 }
@@ -208,7 +195,7 @@ pub fn highest_of(levels: &[u64; 256], n: usize) -> u64
     levels[..n].iter().fold(0, |top, level| top.max(*level))
 }
 
-// Some gates in order, in an array that every card's fit.
+// Some gates in order, in an array that every card's fit, with their number beside it: there is no heap.
 #[derive(Clone, Copy)]
 pub struct Order {
     pub gates: usize,
