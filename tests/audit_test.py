@@ -5,7 +5,7 @@
 2. docs/AUDIT.md has every definition of specs/ at its crate and file, and no other. Definitions are written in four ways and in no other; that there is one proof of
    something at most (`IsProp`), which a ghost field needs, is no definition. A file of specs/Inner says that it is inner and names a law that ties it, which is there.
    Neither a definition outside Inner, nor what demands/proofs says, nor the contract of an operation that docs/CONTRACTS.md calls public speaks of an inner definition,
-   and no such operation takes a type with a ghost field; and every other definition is one that these, the examples, the laws of the host's calls, a function below the
+   and no such operation takes a type with a ghost field or an invariant; and every other definition is one that these, the examples, the laws of the host's calls, a function below the
    operations or a theorem of docs/CONTRACTS.md are built from.
 3. In the README and in every document of docs/ but the two that name what was, docs/PORT.md and docs/DESIGN-PASS.md, names with a path behind them are defined in that
    file, and every other name occurs somewhere in the tree, but for docs/REQUESTS.md, which names what is still to come. docs/CONTRACTS.md names every edit and every
@@ -178,7 +178,11 @@ bodies = {}  # of each struct, its text
 for crate in listed:
     for file in sorted((crates / crate / "src").glob("**/*.rt")):
         bodies |= dict(re.findall(r"^(?:pub )?struct (\w+)[^;{]*\{\n(.*?)^\}", re.sub(r"//.*", "", file.read_text(encoding="utf-8")), flags=re.M | re.S))
-narrow = {name for name, body in bodies.items() if re.search(r"^ *ghost \w+: ", body, flags=re.M)}  # what has a ghost field, or a field that has one
+narrow = {name for name, body in bodies.items() if re.search(r"^ *ghost \w+: ", body, flags=re.M)}  # what has a ghost field or an invariant, or a field of such a type
+for crate in listed:
+    for file in sorted((crates / crate / "src").glob("**/*.rt")):
+        models = [(block, inside) for _, _, block, inside in blocks(file.read_text(encoding="utf-8")) if block.startswith("Model for ")]
+        narrow |= {re.sub(r"<.*", "", block.removeprefix("Model for ")) for block, inside in models if re.search(r"^ *ghost invariant = ", inside, flags=re.M)}
 while more := {name for name, body in bodies.items() if narrow & set(re.findall(r"\w+", body))} - narrow:
     narrow |= more
 
@@ -202,7 +206,7 @@ def said_of(title):
             cites |= here
             if title == "Public operations":
                 takes = re.split(r"^ *(?:requires|ensures) ", contract, flags=re.M)[0]
-                faults.extend(f"{crate}::{name} takes a {kind}, whose ghost fields ask something" for kind in sorted(narrow & set(re.findall(r"\w+", takes))))
+                faults.extend(f"{crate}::{name} takes a {kind}, which asks something" for kind in sorted(narrow & set(re.findall(r"\w+", takes))))
                 faults.extend(f"the contract of {crate}::{name} speaks of {cite[2]}, which is inner" for cite in sorted(here) if cite[1].startswith("Inner"))
     return functions, cites
 

@@ -30,7 +30,7 @@ fn among(entries: &[u16]) -> [bool; 4096]
     out
 }
 
-// The byte of a step that was not done.
+// The byte of a step that was not done: "else 2" (document 01), in lent bytes, so no Option.
 const NOT_DONE: u8 = 2;
 
 // The byte of a step: its variable's value if it was done.

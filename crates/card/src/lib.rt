@@ -16,6 +16,8 @@ use card_wiring::Wiring;
 use rule::{Answer, NetAnswer, NetFacts, Refusal};
 
 // A card, laid out in arrays, its rest and the histories of the last vector. The operations borrow it, and leave it as it stood where they refuse.
+// Arrays of fixed size with their numbers beside them, since there is no heap; two flags and no types for the states, since which of them it is in is known at
+// run time alone, and every operation takes a session in any.
 #[derive(Clone, Copy)]
 pub struct Session {
     // A card is loaded; it is rested.

@@ -191,7 +191,7 @@ pub fn highest_of(levels: &[u64; 256], n: usize) -> u64
     levels[..n].iter().fold(0, |top, level| top.max(*level))
 }
 
-// Some gates in order, in an array that every card's fit.
+// Some gates in order, in an array that every card's fit, with their number beside it: there is no heap.
 #[derive(Clone, Copy)]
 pub struct Order {
     pub gates: usize,

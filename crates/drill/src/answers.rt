@@ -1,177 +1,108 @@
-// The answers' text, in a buffer that is written out when it is full. Each function puts something at a place of the buffer, and gives back
-// how far it is filled then.
-ghost use Rattle.std.specs.Prelude.{◌≡◌, ◌+◌, ◌<◌, ◌≤◌, set};
-ghost use Rattle.drill.specs.Inner.Kept.{slot};
+// The answers' text, behind a buffer of fixed size, since there is no heap.
+ghost use Rattle.std.specs.Prelude.{◌≡◌, ◌≤◌, IfOk};
 
 use rule::{Answer, NetAnswer};
-use std::io;
-use std::io::Stdout;
+use std::fmt::Display;
+use std::io::{Stdout, Write};
+use std::{fmt, io};
 use step_records::StepRecord;
 
-// Standard output, and how the writes to it ended so far. After one that failed there is none.
+// A word, shown in hex.
 #[derive(Drop)]
-pub struct Output {
+pub struct Hex(pub u64);
+
+impl Display for Hex {
+    fn fmt<W: fmt::Write>(&self, f: &mut fmt::Formatter<W>) -> fmt::Result {
+        let word = self.0;
+        write!(f, "{word:x}")
+    }
+}
+
+// A step record, shown as net and time.
+#[derive(Drop)]
+pub struct Step(pub StepRecord);
+
+impl Display for Step {
+    fn fmt<W: fmt::Write>(&self, f: &mut fmt::Formatter<W>) -> fmt::Result {
+        let net = self.0.net;
+        let time = self.0.time;
+        write!(f, "{net}:{time}")
+    }
+}
+
+// Standard output, and the first bytes of a room that are still to be written to it.
+#[derive(Drop)]
+pub struct Output<'a> {
     to: Stdout,
-    ended: io::Result<()>,
-}
-
-// Nothing is written yet.
-pub fn begin(to: Stdout) -> Output {
-    Output { to, ended: Ok(()) }
-}
-
-// How the writes ended.
-pub fn end(to: Output) -> io::Result<()> {
-    to.ended
-}
-
-fn write(to: &mut Output, bytes: &[u8]) {
-    if to.ended.is_ok() {
-        to.ended = to.to.write_all(bytes);
-    }
-}
-
-// Writes the first n bytes of the buffer out, all of it where it has no more.
-pub fn flush(to: &mut Output, out: &[u8], n: usize) {
-    if n < out.len() {
-        write(to, &out[..n]);
-    } else {
-        write(to, out);
-    }
-}
-
-// One byte; a full buffer is written out first.
-pub fn put(to: &mut Output, out: &mut [u8; 8192], at: usize, b: u8) -> usize
-    ensures { (result ≡ slot at + 1) × (out.new ≡ set out.old (slot at) b) }
-{
-    if at < 8192 {
-        out[at] = b;
-        at + 1
-    } else {
-        flush(to, out, 8192);
-        out[0] = b;
-        1
-    }
-}
-
-// The bytes of a text.
-fn put_text(to: &mut Output, out: &mut [u8; 8192], at: usize, text: &[u8]) -> usize {
-    let mut end = at;
-    let mut i: usize = 0;
-    while i < text.len() {
-        end = put(to, out, end, text[i]);
-        i += 1;
-    }
-    end
-}
-
-// A number, in decimal.
-fn put_decimal(to: &mut Output, out: &mut [u8; 8192], at: usize, n: u64) -> usize {
-    if n < 10 {
-        return put(to, out, at, b'0' + n as u8);
-    }
-    let end = put_decimal(to, out, at, n / 10);
-    put(to, out, end, b'0' + (n % 10) as u8)
-}
-
-// A hexadecimal digit.
-fn hex_digit(d: u8) -> u8
-    requires { d < 16 }
-{
-    if d < 10 { b'0' + d } else { b'a' + (d - 10) }
-}
-
-// A word, in hex.
-fn put_hex(to: &mut Output, out: &mut [u8; 8192], at: usize, n: u64) -> usize {
-    if n < 16 {
-        return put(to, out, at, hex_digit(n as u8));
-    }
-    let end = put_hex(to, out, at, n / 16);
-    put(to, out, end, hex_digit((n % 16) as u8))
-}
-
-// An answer's number and count.
-fn put_head(to: &mut Output, out: &mut [u8; 8192], at: usize, number: u8, count: usize) -> usize {
-    let a = put_decimal(to, out, at, number as u64);
-    let b = put(to, out, a, b' ');
-    put_decimal(to, out, b, count as u64)
-}
-
-// What an operation answers.
-pub fn put_answer(to: &mut Output, out: &mut [u8; 8192], at: usize, answer: Answer) -> usize {
-    put_head(
-        to,
-        out,
-        at,
-        rule::answer_number(answer),
-        rule::answer_count(answer),
-    )
-}
-
-// What the question about a net answers, with level and word.
-pub fn put_net(to: &mut Output, out: &mut [u8; 8192], at: usize, answer: NetAnswer) -> usize {
-    let a = put_head(to, out, at, rule::net_number(answer), 0);
-    let b = put(to, out, a, b' ');
-    let c = put_decimal(to, out, b, rule::net_level(answer));
-    let d = put(to, out, c, b' ');
-    put_hex(to, out, d, rule::net_word(answer))
-}
-
-// A lent room of words, each in hex.
-pub fn put_words(to: &mut Output, out: &mut [u8; 8192], at: usize, room: &[u64]) -> usize {
-    let mut end = put_text(to, out, at, b" |");
-    let mut i: usize = 0;
-    while i < room.len() {
-        end = put(to, out, end, b' ');
-        end = put_hex(to, out, end, room[i]);
-        i += 1;
-    }
-    end
-}
-
-// A lent room of nets.
-pub fn put_nets(to: &mut Output, out: &mut [u8; 8192], at: usize, room: &[u16]) -> usize {
-    let mut end = put_text(to, out, at, b" |");
-    let mut i: usize = 0;
-    while i < room.len() {
-        end = put(to, out, end, b' ');
-        end = put_decimal(to, out, end, room[i] as u64);
-        i += 1;
-    }
-    end
-}
-
-// A lent room of bytes.
-pub fn put_bytes(to: &mut Output, out: &mut [u8; 8192], at: usize, room: &[u8]) -> usize {
-    let mut end = put_text(to, out, at, b" |");
-    let mut i: usize = 0;
-    while i < room.len() {
-        end = put(to, out, end, b' ');
-        end = put_decimal(to, out, end, room[i] as u64);
-        i += 1;
-    }
-    end
-}
-
-// The first n of a room of records, each by net and time.
-pub fn put_records(
-    to: &mut Output,
-    out: &mut [u8; 8192],
+    room: &'a mut [u8; 8192],
     at: usize,
-    room: [StepRecord; 20000],
-    n: usize,
-) -> usize
-    requires { n ≤ 20000 }
-{
-    let mut end = put_text(to, out, at, b" |");
-    let mut i: usize = 0;
-    while i < n {
-        let step = room[i];
-        end = put(to, out, end, b' ');
-        end = put_decimal(to, out, end, step.net as u64);
-        end = put(to, out, end, b':');
-        end = put_decimal(to, out, end, step.time as u64);
-        i += 1;
+    ghost within: { at ≤ 8192 },
+}
+
+impl Write for Output<'_> {
+    // Takes all of the bytes; a full room is written out first.
+    fn write(&mut self, bytes: &[u8]) -> io::Result<usize> {
+        for b in bytes {
+            if self.at == 8192 {
+                self.write_out()?;
+            }
+            self.room[self.at] = *b;
+            self.at += 1;
+        }
+        Ok(bytes.len())
     }
-    end
+
+    fn flush(&mut self) -> io::Result<()> {
+        self.write_out()
+    }
+}
+
+impl<'a> Output<'a> {
+    // Nothing is written yet.
+    pub fn new(to: Stdout, room: &'a mut [u8; 8192]) -> Output<'a> {
+        Output { to, room, at: 0 }
+    }
+
+    // Writes out what stands in the room, which is empty then.
+    fn write_out(&mut self) -> io::Result<()>
+        ensures { IfOk result (λ _. self.new.at ≡ 0) }
+    {
+        let mut to = self.to;
+        let room = &mut *self.room;
+        to.write_all(&room[..self.at])?;
+        self.at = 0;
+        Ok(())
+    }
+
+    // What an operation answers: its number, and its count, which is 0 for a refusal.
+    pub fn put_answer(&mut self, answer: Answer) -> io::Result<()> {
+        let number = rule::number(&answer);
+        let count = answer.unwrap_or(0);
+        write!(self, "{number} {count}")
+    }
+
+    // What the question about a net answers, with level and word.
+    pub fn put_net(&mut self, answer: NetAnswer) -> io::Result<()> {
+        let number = rule::number(&answer);
+        let facts = answer.unwrap_or_default();
+        let level = facts.level;
+        let word = Hex(facts.word);
+        write!(self, "{number} 0 {level} {word}")
+    }
+
+    // A lent room, entry by entry, each as it is shown.
+    pub fn put_room<T, D: Display + Drop, F: Fn(&T) -> D>(
+        &mut self,
+        room: &[T],
+        shown: F,
+    ) -> io::Result<()>
+        requires { F.IsAlwaysCallable shown }
+    {
+        write!(self, " |")?;
+        for entry in room {
+            let text = shown(entry);
+            write!(self, " {text}")?;
+        }
+        Ok(())
+    }
 }

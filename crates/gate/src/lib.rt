@@ -41,7 +41,8 @@ pub fn rule_of(ty: usize) -> Rule
     }
 }
 
-// Pin by pin: what the pins so far come to, with one more, at every time. One pin comes to its own value.
+// Pin by pin: what the pins so far come to, with one more, at every time. One pin comes to its own value. A type is its number, which indexes the table
+// (document 01): an enum would be made of a number for each gate, and turned back for the table.
 pub fn with_pin<V: Lane>(ty: usize, rule: Rule, known: V, pin: V) -> V
     requires { rule.controlling ≡ controls ty }
     ensures { (t : ℕ) → V.at result t ≡ with_pin ty (V.at known t) (V.at pin t) }

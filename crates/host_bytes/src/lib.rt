@@ -123,7 +123,7 @@ pub fn keep_vector(b: &mut [u8], engine: Engine, v: &[u8])
     put_area(b, LAST_AT, CARD_AT, v);
 }
 
-// What an operation that was done leaves.
+// What an operation that was done leaves. A match, as in `operations`: the calls for C name the operation, and `kept_by` says what each leaves.
 pub fn keep(b: &mut [u8], how: Move, given: &[u8])
     requires { session_length ≤ length b.old }
     ensures { b.new ≡ kept_by how b.old given.now }

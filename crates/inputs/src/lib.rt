@@ -14,6 +14,8 @@ use std::array;
 // A vector byte is 0 or 1: it is below this.
 const BYTE_LIMIT: u8 = 2;
 
+// Kinds and types are document 01's numbers here, as a session's arrays and the definitions over them have them: an enum would be made of each entry again.
+
 // The nets that are inputs, in their order, at the front.
 pub fn input_nets<'a>(kinds: &'a [u8; 256]) -> [u16; 256]
     ensures { result ≡ input_nets kinds.now 256 }

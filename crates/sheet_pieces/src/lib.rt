@@ -106,7 +106,8 @@ fn next_record(sheet: &mut Sheet, file: &[u8], out: &mut [u8; 20480]) -> Answer
     }
 }
 
-// The piece of a sheet as it stands: the card's, a record's, or nothing more.
+// The piece of a sheet as it stands: the card's, a record's, or nothing more. A match and no closure: how a sheet stands is handed from piece to piece, and the
+// theorem on all pieces speaks of it.
 fn step(sheet: &mut Sheet, file: &[u8], out: &mut [u8; 20480]) -> Answer
     requires { Standing sheet.old }
     ensures { Comes (piece_of sheet.old file.now) sheet.old out.old result sheet.new out.new }

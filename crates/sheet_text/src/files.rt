@@ -5,7 +5,7 @@ ghost use Rattle.sheet_text.specs.Walk.{is_end, card_end, entry_at};
 use crate::Entry;
 use rule::Refusal;
 
-// Whether a head is that of an end record.
+// Whether a head is that of an end record. Kinds are numbers here: `Kind` (card_records) names those of a card, and a file has 5 and 6 besides.
 fn is_end(kind: usize, len: usize) -> bool
     ensures { result ≡ is_end kind len }
 {

@@ -42,7 +42,8 @@ fn put_net(nets: &mut [u16; 4096], times: &mut [u8; 4096], at: usize, set: u64, 
     next
 }
 
-// The step list, a net and a time for each step number: by level, then net, then time. Its length is handed back.
+// The step list, a net and a time for each step number: by level, then net, then time. Its length is handed back. Two arrays and a number, since there is no
+// heap, and document 01 lends two slices of numbers.
 pub fn put_list<'a>(
     nets: &mut [u16; 4096],
     times: &mut [u8; 4096],

@@ -48,7 +48,7 @@ impl<'a> Page<'a> {
         self.at = end;
     }
 
-    // A number, in decimal.
+    // A number, in decimal. By hand, since the contract names the digits that a sheet's theorem speaks of (`decimal`), and a page has no heap to print to.
     pub fn put_decimal(&mut self, n: usize)
         requires { self.old.at + length (decimal n) ≤ 20480 }
         ensures { Puts (decimal n) self.old self.new }

@@ -43,7 +43,7 @@ impl PcSet {
         self.word.count_ones()
     }
 
-    // The least time; 64 where the set is empty.
+    // The least time; 64 where the set is empty, as its definition has it: times are compared with it, and an Option is no plainer.
     pub fn least(self) -> u32
         ensures { result ≡ least (bit self.word) 64 }
     {
