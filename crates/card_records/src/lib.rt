@@ -11,7 +11,7 @@ use rule::Refusal;
 
 // What a record is of.
 #[derive(Clone, Copy, Debug, PartialEq, Eq)]
-pub enum Kind {
+enum Kind {
     Input = 1,
     Constant = 2,
     Gate = 3,
@@ -98,7 +98,7 @@ impl From<Kind> for u8 {
 
 impl Kind {
     // Whether a body of so many bytes fits the kind.
-    pub fn fits(self, len: usize) -> bool
+    fn fits(self, len: usize) -> bool
         ensures { result ≡ kind_fits (kind_number self) len }
     {
         match self {

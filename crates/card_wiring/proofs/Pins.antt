@@ -1,6 +1,6 @@
 -- The pins of a net, read one after another: tests on all of them, and what an array of the nets has for each. Assumes nothing.
 use mathlib.Core.Path.{◌≡◌, refl, sym, ap, ◌∙◌, subst}
-use mathlib.Core.Bool.{Bool, true, ◌&&◌, ◌||◌, or-false}
+use mathlib.Core.Bool.{Bool, true}
 use mathlib.Core.List.Memᴰ
 use mathlib.Core.List.{List, [], ◌∷◌, ◌++◌, map, map-append}
 use mathlib.Core.Logic.{◌⊎◌, inl, inr, ⊎_elim}
@@ -13,12 +13,12 @@ use lib.Dec.{ltb, eqb}
 use lib.ListN.{length, get_or, take, drop}
 use Rattle.std.proofs.lemmas.List.{length-take, length-drop, length-take-le, get_or-take, get_or-drop, take_more}
 use borrow.Author.Tests.{ltb-true, eqb-true, lt-ltb, eq-eqb}
-use Rattle.lists.specs.Entries.{◌∈◌, some, every, from}
+use Rattle.lists.specs.Entries.{◌∈◌, every, from}
 use Rattle.lists.specs.Listed.{listed}
-use Rattle.lists.proofs.Bools.{or_either, or_later, and_make}
-use Rattle.lists.proofs.Tests.{some_append, every_append, every_at, every_yes, map_on}
+use Rattle.lists.proofs.Bools.{or_either, or_later}
+use Rattle.lists.proofs.Tests.{every_at, every_is, every_yes, map_on}
 use Rattle.lists.proofs.Joined.{in_from}
-use Rattle.lists.proofs.Listed.{listed_none, listed_more, listed_at, in_listed, is_listed}
+use Rattle.lists.proofs.Listed.{listed_none, listed_at, in_listed, is_listed}
 use Rattle.lists.proofs.Order.{at_in}
 use Rattle.rule.specs.Net.{open_pin, at_pin}
 use Rattle.rule.proofs.Nets.{at_open, at_net, not_open}
@@ -32,30 +32,18 @@ module _ {A B : Type 0} (f : A → B) (xs : List A) (i : ℕ) (d : A) (l : i < l
   pub map_entry : map f (take (i + 1) xs) ≡ map f (take i xs) ++ (f (get_or xs i d) ∷ [])
   map_entry = ap (map f) (take_more xs i d l) ∙ map-append f (take i xs) (get_or xs i d ∷ [])
 
-  pub some_entry : (test : B → Bool) → some test (map f (take (i + 1) xs)) ≡ some test (map f (take i xs)) || test (f (get_or xs i d))
-  some_entry test =
-      ap (some test) map_entry ∙ some_append test (map f (take i xs)) (f (get_or xs i d) ∷ [])
-      ∙ ap (λ b. some test (map f (take i xs)) || b) (or-false (test (f (get_or xs i d))))
-
-pub every_more : {A : Type 0} (test : A → Bool) (f : ℕ → A) (j : ℕ) → every test (listed f j) ≡ true → test (f j) ≡ true → every test (listed f (j + 1)) ≡ true
-every_more test f j h e = ap (every test) (listed_more f j) ∙ every_append test (listed f j) (f j ∷ []) ∙ and_make _ _ h (rw e)
-
 -- its first entries, as a list by place
 pub front_listed : (xs : List ℕ) (i : ℕ) → i ≤ length xs → take i xs ≡ listed (λ k. get_or xs k 0) i
 front_listed xs i l = is_listed (λ k. get_or xs k 0) i 0 (take i xs) (length-take-le i xs l) (λ k b. get_or-take i xs k 0 b)
 
 -- The library's word for a test on every entry, and for a range of numbers
 
-pub all_every : {A : Type 0} (test : A → Bool) (xs : List A) → list_all test xs ≡ every test xs
-all_every test [] = refl
-all_every test (x ∷ xs) = ap (λ b. test x && b) (all_every test xs)
-
 range_from : (a k : ℕ) → range_with_len a k ≡ from a k
 range_from a zero = refl
 range_from a (suc k) = rw (add-one a, range_from (suc a) k)
 
 pub all_from : (test : ℕ → Bool) (a k : ℕ) → list_all test (range_with_len a k) ≡ every test (from a k)
-all_from test a k = all_every test (range_with_len a k) ∙ ap (every test) (range_from a k)
+all_from test a k = every_is test (range_with_len a k) ∙ ap (every test) (range_from a k)
 
 -- what stands in a list from a place on
 pub part_listed : (xs : List ℕ) (a n k : ℕ) → n ≡ k → a + k ≤ length xs → take n (drop a xs) ≡ listed (λ j. get_or xs (a + j) 0) k

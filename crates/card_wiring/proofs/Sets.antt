@@ -2,17 +2,16 @@
 use mathlib.Core.Path.{◌≡◌, refl, sym, ap, ◌∙◌}
 use mathlib.Core.Bool.{Bool, true, false, ◌&&◌}
 use mathlib.Core.List.{List, [], ◌∷◌, map}
-use Prim.Native.Nat.{ℕ, zero, suc, ◌+◌, ◌^◌, ◌≤◌, ◌<◌}
+use Prim.Native.Nat.{ℕ, zero, suc, ◌+◌, ◌^◌, ◌<◌}
 use native.Mathlib.Omega.{arith}
 use mir.Val.{bool_byte}
 use lib.Dec.{eqb, ltb}
-use lib.ListN.{length, get_or, take, set, replicate}
+use lib.ListN.{length, get_or, take, set}
 use Rattle.std.proofs.lemmas.List.{take_more}
-use borrow.Author.Tests.{eq-eqb, eqb-true, lt-ltb, le-ltb}
+use borrow.Author.Tests.{eq-eqb, eqb-true}
 use Rattle.lists.specs.Entries.{some, sum}
-use Rattle.lists.specs.Listed.{listed, upto}
+use Rattle.lists.specs.Listed.{listed}
 use Rattle.lists.proofs.Joined.{sum_append}
-use Rattle.lists.proofs.Fills.{fill_none, fill_more, put_rest}
 use Rattle.word.specs.Word.{val, bit, moved_up}
 use Rattle.word.specs.Times.{count}
 use Rattle.word.proofs.Words.{is_word}
@@ -41,19 +40,8 @@ byte_val true = refl
 byte_val false = refl
 
 -- ahead of the gates
-pub sources_none : (counts : List ℕ) (n : ℕ) → replicate 256 0 ≡ listed (upto (source_set counts n) (λ g. 0) 0) 256
-sources_none counts n = fill_none (source_set counts n) 0 256
-
-pub sources_more : (counts : List ℕ) (n g v : ℕ) (sets : List ℕ) → g < n → n ≤ 256 → sets ≡ listed (upto (source_set counts n) (λ h. 0) g) 256
-    → v ≡ val (eqb (get_or counts g 0) 0) → set sets g v ≡ listed (upto (source_set counts n) (λ h. 0) (g + 1)) 256
-sources_more counts n g v sets l few e q =
-    fill_more (source_set counts n) 0 256 g sets v (omega arith) e
-    (q ∙ sym (at_net 1 (λ h. val (ltb h n && eqb (get_or counts h 0) 0)) g (not_open g (omega arith)) ∙ rw (lt-ltb g n l)))
-
-pub sources_all : (counts : List ℕ) (n : ℕ) (sets : List ℕ) → sets ≡ listed (upto (source_set counts n) (λ h. 0) n) 256 → sets ≡ listed (source_set counts n) 256
-sources_all counts n sets e =
-    put_rest (source_set counts n) (λ h. 0) 256 n sets e
-    (λ j l b. sym (at_net 1 (λ h. val (ltb h n && eqb (get_or counts h 0) 0)) j (not_open j (omega arith)) ∙ rw (le-ltb j n l)))
+pub source_made : (counts : List ℕ) (n g r : ℕ) → g < 256 → r ≡ val (ltb g n && eqb (get_or counts g 0) 0) → r ≡ source_set counts n g
+source_made counts n g r l e = e ∙ sym (at_net 1 (λ h. val (ltb h n && eqb (get_or counts h 0) 0)) g (not_open g (omega arith)))
 
 pub along_none : (counts places : List ℕ) (n : ℕ) → listed (source_set counts n) 256 ≡ sets_along counts places n []
 unfolding sets_along

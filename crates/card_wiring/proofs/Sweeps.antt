@@ -10,9 +10,8 @@ use native.Mathlib.Decide.{dec_lt}
 use lib.ListN.{length, get_or, take, replicate}
 use Rattle.std.specs.Prelude.{fold}
 use Rattle.std.proofs.lemmas.List.{take_more}
-use borrow.Author.Tests.{lt-ltb, le-ltb}
 use Rattle.lists.specs.Entries.{from}
-use Rattle.lists.specs.Listed.{listed, upto}
+use Rattle.lists.specs.Listed.{listed}
 use Rattle.lists.proofs.Joined.{from_more}
 use Rattle.lists.proofs.Listed.{listed_at, listed_ext, listed_all, listed_same}
 use Rattle.rule.specs.Net.{open_pin, at_pin}
@@ -78,19 +77,16 @@ module _ (w : ℕ → ℕ) (counts places : List ℕ) (n : ℕ) (wires : Wires c
   past_none k g l = longest_none (pins_at counts places) w k g (no_pins counts places n g wires l)
 
   -- one net more is swept; all of them
-  pub swept : (k g : ℕ) (old : List ℕ) → all_fit counts places n ≡ true → old ≡ backs w counts places k
+  swept : (k g : ℕ) (old : List ℕ) → all_fit counts places n ≡ true → old ≡ backs w counts places k
       → over (w g) (map (at_pin 0 (λ m. get_or old m 0)) (pins_at counts places g)) ≡ back (k + 1) g
   swept k g old fits e =
       let few = wires.few in
       rw (add-one k, longest_more (pins_at counts places) w k g, e)
       (ap (over (w g)) (pins_read (back k) 0 n (pins_at counts places g) few (fitting counts places n wires fits g) (past_none k open_pin (omega (arith, open_is)))))
 
-  pub all_swept : (k : ℕ) → listed (upto (back k) (λ g. 0) n) 256 ≡ backs w counts places k
-  all_swept k = listed_ext (upto (back k) (λ g. 0) n) (back k) 256 (λ g b. go g (dec_lt g n))
-    where
-      go : (g : ℕ) → Dec (g < n) → upto (back k) (λ g. 0) n g ≡ back k g
-      go g (yes l) = rw (lt-ltb g n l)
-      go g (no l) = rw (le-ltb g n (omega arith)) (sym (past_none k g (omega arith)))
+  pub all_swept : (k : ℕ) (old : List ℕ) → all_fit counts places n ≡ true → old ≡ backs w counts places k
+      → listed (λ g. over (w g) (map (at_pin 0 (λ m. get_or old m 0)) (pins_at counts places g))) 256 ≡ backs w counts places (k + 1)
+  all_swept k old fits e = listed_ext _ (back (k + 1)) 256 (λ g b. swept k g old fits e)
 
   -- a sweep that changes nothing is the last
   pub sweeps_end : (k j : ℕ) → backs w counts places k ≡ backs w counts places (k + 1) → k ≤ j → backs w counts places k ≡ backs w counts places j

@@ -15,6 +15,7 @@ ghost use Rattle.card_wiring.specs.Inner.Wired.{as_order, with_gate, set_wired, 
 mod gather;
 
 use rule::Refusal;
+use std::array;
 use word::PcSet;
 
 // The value of a pin that names no net.
@@ -107,13 +108,10 @@ impl<'a> Wiring<'a> {
     // One gate more is followed back from every net.
     fn sweep(self, old: &[u64; 256]) -> [u64; 256]
         requires { (i : ℕ) → get_or old.now i 0 < 1000 }
-        ensures { (k : ℕ) → old.now ≡ backs (λ (h : ℕ). 1) self.entry.counts.now self.entry.places.now k → result ≡ backs (λ (h : ℕ). 1) self.entry.counts.now self.entry.places.now (k + 1) }
+        ensures { (k : ℕ) → old.now ≡ backs (λ (h : ℕ). 1) self.entry.counts.now self.entry.places.now k
+            → result ≡ backs (λ (h : ℕ). 1) self.entry.counts.now self.entry.places.now (k + 1) }
     {
-        let mut new = [0u64; 256];
-        for g in 0..self.nets {
-            new[g] = self.over_pins(old, g);
-        }
-        new
+        array::from_fn(|g| self.over_pins(old, g))
     }
 
     // The gates counted backwards from every net, followed until nothing changes, at most to one gate more than there are nets.
@@ -145,15 +143,12 @@ impl<'a> Wiring<'a> {
         all.raise().word
     }
 
-    // The cleared sets, with {0} put in for inputs and constants, the nets without pins.
-    fn source_sets(self) -> [u64; 256]
-        ensures { result ≡ listed (source_set self.entry.counts.now self.entry.nets) 256 }
+    // The PC-set of net g ahead of the gates: {0} for an input or a constant, the nets without pins; else cleared.
+    fn source_set(self, g: usize) -> u64
+        requires { g < 256 }
+        ensures { result ≡ source_set self.entry.counts.now self.entry.nets g }
     {
-        let mut sets = [0u64; 256];
-        for g in 0..self.nets {
-            sets[g] = u64::from(self.counts[g] == 0);
-        }
-        sets
+        u64::from(g < self.nets && self.counts[g] == 0)
     }
 
     // The PC-sets of all nets: those of inputs and constants, and the gates' along their order.
@@ -161,7 +156,7 @@ impl<'a> Wiring<'a> {
         requires { (i : ℕ) → get_or order.now i 0 < 256 }
         ensures { result ≡ sets_along self.entry.counts.now self.entry.places.now self.entry.nets order.now }
     {
-        let mut sets = self.source_sets();
+        let mut sets = array::from_fn(|g| self.source_set(g));
         for g in order {
             let g = usize::from(*g);
             sets[g] = self.set_of(&sets, g);
@@ -172,7 +167,8 @@ impl<'a> Wiring<'a> {
     // The gates' order and the PC-sets of a card whose levels are known, or 7.
     fn with_sets(self, levels: &[u64; 256], depth: u64) -> Result<Wired, Refusal>
         requires { depth < 1000 }
-        ensures { result ≡ set_wired self.entry.counts.now self.entry.places.now self.entry.nets (order_of levels.now self.entry.nets depth) }
+        ensures { result
+            ≡ set_wired self.entry.counts.now self.entry.places.now self.entry.nets (order_of levels.now self.entry.nets depth) }
     {
         let order = by_level(levels, self.nets, depth);
         let sets = self.pcsets(order.as_slice());

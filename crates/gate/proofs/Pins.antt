@@ -16,13 +16,6 @@ use Rattle.word.specs.Word.{differ}
 use Rattle.gate.specs.Inner.Pins.{by_pins, with_pin, of_pins}
 use Rattle.gate.specs.Gate.{inverts, controls, controlled, odd, gate}
 
--- `a ^ b` on bools, as the logic has it
-pub beq_differ : (a b : Bool) → not (beq a b) ≡ differ a b
-beq_differ true true = refl
-beq_differ true false = refl
-beq_differ false true = refl
-beq_differ false false = refl
-
 differ_assoc : (a b c : Bool) → differ a (differ b c) ≡ differ (differ a b) c
 differ_assoc false b c = refl
 differ_assoc true false c = refl

@@ -1,31 +1,17 @@
 -- A list that is filled place by place, where a place may also be left as it is. Assumes nothing.
-use mathlib.Core.Path.{◌≡◌, refl, sym, ap, ◌∙◌}
+use mathlib.Core.Path.{◌≡◌, refl, ap, ◌∙◌}
 use mathlib.Core.Bool.{Bool, true, false, cond}
 use mathlib.Core.List.{List}
 use Prim.Native.Nat.{ℕ, ◌+◌, ◌≤◌, ◌<◌}
-use native.Mathlib.Omega.{arith}
 use lib.Dec.{ltb}
 use lib.ListN.{length, get_or, set, replicate}
-use borrow.Author.Tests.{ltb-true, ltb-false}
+use borrow.Author.Tests.{ltb-false}
 use Rattle.lists.specs.Listed.{listed, upto}
 use Rattle.lists.proofs.Listed.{listed_same, listed_self, listed_ext, upto_none, upto_more}
 
 module _ {A : Type 0} (f g : ℕ → A) (n : ℕ) where
   pub put_more : (i : ℕ) (xs : List A) (v : A) → i < n → xs ≡ listed (upto f g i) n → v ≡ f i → set xs i v ≡ listed (upto f g (i + 1)) n
   put_more i xs v l e h = rw (e, h) (upto_more f g n i l)
-
-  -- a place that has its value already
-  pub put_skip : (i : ℕ) (xs : List A) → xs ≡ listed (upto f g i) n → g i ≡ f i → xs ≡ listed (upto f g (i + 1)) n
-  put_skip i xs e h = e ∙ listed_ext (upto f g i) (upto f g (i + 1)) n same
-    where
-      same : (j : ℕ) → j < n → upto f g i j ≡ upto f g (i + 1) j
-      same j b = go (ltb j i) refl (ltb j (i + 1)) refl
-        where
-          go : (x : Bool) → ltb j i ≡ x → (y : Bool) → ltb j (i + 1) ≡ y → cond x (f j) (g j) ≡ cond y (f j) (g j)
-          go true p true q = refl
-          go true p false q = absurd (omega (arith, ltb-true j i p, ltb-false j (i + 1) q))
-          go false p true q = let s : j ≡ i = omega (arith, ltb-false j i p, ltb-true j (i + 1) q) in ap g s ∙ h ∙ ap f (sym s)
-          go false p false q = refl
 
   -- the places from i on have theirs already
   pub put_rest : (i : ℕ) (xs : List A) → xs ≡ listed (upto f g i) n → ((j : ℕ) → i ≤ j → j < n → g j ≡ f j) → xs ≡ listed f n
@@ -47,9 +33,3 @@ module _ {A : Type 0} (f : ℕ → A) (d : A) (n : ℕ) where
 
   pub fill_more : (i : ℕ) (xs : List A) (v : A) → i < n → xs ≡ listed (upto f (λ j. d) i) n → v ≡ f i → set xs i v ≡ listed (upto f (λ j. d) (i + 1)) n
   fill_more = put_more f (λ j. d) n
-
-  pub fill_skip : (i : ℕ) (xs : List A) → xs ≡ listed (upto f (λ j. d) i) n → d ≡ f i → xs ≡ listed (upto f (λ j. d) (i + 1)) n
-  fill_skip = put_skip f (λ j. d) n
-
-  pub fill_all : (i : ℕ) (xs : List A) → i ≡ n → xs ≡ listed (upto f (λ j. d) i) n → xs ≡ listed f n
-  fill_all i xs q e = put_rest f (λ j. d) n i xs e (λ j a b. absurd (omega arith))

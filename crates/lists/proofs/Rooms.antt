@@ -47,10 +47,6 @@ module _ {A : Type 0} (d : A) where
       go (yes b) = listed_at (upto f (λ i. get_or room i d) n) (length room) e d b ∙ rw (le-ltb e n l)
       go (no b) = listed_past (upto f (λ i. get_or room i d) n) (length room) e d (omega arith) ∙ sym (get_or-eq_default room d (omega arith))
 
-  -- what is filled from a list that was filled so
-  pub fills_through : (f : ℕ → A) (n m : ℕ) (old room : List A) → n ≤ m → m ≤ length old → fills d (λ e. get_or (fills d f m old) e d) n room ≡ fills d f n room
-  fills_through f n m old room l k = fills_same (λ e. get_or (fills d f m old) e d) f n room (λ e b. fills_at f m e old k (omega arith))
-
   -- the first n entries of a list, copied to the front
   pub fills_copied : (from room : List A) (n : ℕ) → n ≤ length from → n ≤ length room → take n from ++ drop n room ≡ fills d (λ e. get_or from e d) n room
   fills_copied from room n a b = is_listed (upto (λ e. get_or from e d) (λ i. get_or room i d) n) (length room) d (take n from ++ drop n room) size (λ i l. at i (dec_lt i n))
@@ -67,24 +63,6 @@ module _ {A : Type 0} (d : A) where
           let k : length (take n from) ≤ i = omega arith in
           let x : n + (i - length (take n from)) ≡ i = omega arith in
           rw (le-ltb i n (omega arith)) (get_or-append_right (take n from) (drop n room) i d k ∙ get_or-drop n room (i - length (take n from)) d ∙ ap (λ j. get_or room j d) x)
-
-  -- A loop that copies the first n entries of a list: what it keeps
-  module _ (from : List A) (n : ℕ) (room₀ : List A) where
-    abbrev pub Copied : List A → ℕ → Type 0
-    Copied room i = (i ≤ n) × (room ≡ fills d (λ e. get_or from e d) i room₀)
-
-    pub copied_none : Copied room₀ 0
-    copied_none = (omega arith, fills_none (λ e. get_or from e d) room₀)
-
-    module _ (room : List A) (i : ℕ) (c : Copied room i) where
-      pub copied_length : length room ≡ length room₀
-      copied_length = ap length c.1 ∙ fills_length (λ e. get_or from e d) i room₀
-
-      pub copied_more : i < n → n ≤ length room₀ → Copied (set room i (get_or from i d)) (i + 1)
-      copied_more l b = (omega arith, fills_next (λ e. get_or from e d) i room₀ room c.1 (omega arith))
-
-      pub copied_all : n ≤ i → room ≡ fills d (λ e. get_or from e d) n room₀
-      copied_all l = let e : i ≡ n = omega (arith, c.0) in rw e at c.1
 
 -- Room for numbers
 

@@ -11,7 +11,7 @@ use borrow.Author.Tests.{eq-eqb, ne_eqb}
 use Rattle.std.specs.List.{list_all}
 use Rattle.std.proofs.lemmas.List.Folds.{list_all-map}
 use Rattle.card_wiring.specs.Layout.{pins_at}
-use Rattle.card_wiring.proofs.Pins.{all_every}
+use Rattle.lists.proofs.Tests.{every_is}
 use Rattle.lists.specs.Entries.{every}
 use Rattle.lists.proofs.Order.{at_in}
 use Rattle.word.specs.Word.{bit}
@@ -34,7 +34,7 @@ module _ (done sets : List ℕ) (t : ℕ) where
 pub pins_done : (done counts places sets : List ℕ) (g t : ℕ)
     → list_all (pin_done done sets t) (pins_at counts places g) ≡ every (done_of done) (reads_in counts places sets (record { net = g; time = t }))
 pins_done done counts places sets g t =
-    sym (list_all-map (done_of done) (read_in sets t) (pins_at counts places g)) ∙ all_every (done_of done) (map (read_in sets t) (pins_at counts places g))
+    sym (list_all-map (done_of done) (read_in sets t) (pins_at counts places g)) ∙ every_is (done_of done) (map (read_in sets t) (pins_at counts places g))
 
 -- An order
 

@@ -1,13 +1,13 @@
 -- The laws of `bit`: of and, or, xor, not, the shifts and masks on words, and that a word is its bits. Assumes nothing.
-use mathlib.Core.Path.{◌≡◌, refl, sym, ap, ap₂, ◌∙◌, subst}
+use mathlib.Core.Path.{◌≡◌, refl, sym, ap, ap₂, ◌∙◌}
 use mathlib.Core.Bool.{cond, and-true, and-false, and_comm, Bool, true, false, not, ◌&&◌, ◌||◌, or-false, or-true}
-use Prim.Native.Nat.{ℕ, zero, suc, ◌+◌, ◌-◌, ◌*◌, ◌/◌, ◌%◌, ◌^◌, ◌≤◌, ◌<◌, zero-le, suc-le-suc}
-use native.Mathlib.Nat.{sub-zero, one-mul, mul-div_cancel, mul-mod_left, mod-eq_of_lt, mod-lt, zero-lt-suc, div-one, pow-suc, div-eq_of_lt, not-suc-le-zero, div-add-mod', le_of_suc-le-suc, lt_of_lt_of_le}
+use Prim.Native.Nat.{ℕ, zero, suc, ◌+◌, ◌-◌, ◌*◌, ◌/◌, ◌%◌, ◌^◌, ◌≤◌, ◌<◌, min, max, zero-le, suc-le-suc}
+use native.Mathlib.Nat.{one-mul, mul-div_cancel, mul-mod_left, mod-eq_of_lt, mod-lt, zero-lt-suc, pow-suc, not-suc-le-zero, div-add-mod', le_of_suc-le-suc}
 use native.Mathlib.Omega.{arith}
-use native.Mathlib.Numerals.{add-one, one-add}
-use lib.Arith.{lt-one}
-use lib.Pow.{pow_pos, pow-lt, shl-shr, shr_lt, mod-mod-pow, pow_mono, shr-shr, field}
-use lib.Bits.{bit_and, bit_or, bit_xor, and_shr, or_shr, xor_shr, and_mask, mask_lt, and_mod, or_mod, xor_mod}
+use Rattle.std.specs.Int.{bit_at}
+use Rattle.std.proofs.lemmas.Nat.Bits.{bit_at_and, bit_at_or, bit_at_xor, bit_at-suc, bit_at_lowest, bit_at_above, bit_at-zero, bit_at-lt, bit_at_cat_low, same_from_bits_below, shr_and_one, bit_at_ones, bit_at-pow_same, bit_at-pow_other}
+use lib.Pow.{pow_pos, pow-lt, shl-shr, shr-shr}
+use lib.Bits.{bit_and, bit_or, bit_xor, and_mask, mask_lt}
 use mir.Val.{bool_byte}
 use lib.Dec.{eqb, leb, ltb, lit<}
 use borrow.Author.Tests.{eq-eqb, ne_eqb, le-leb, lt-leb, lt-ltb, le-ltb}
@@ -26,55 +26,51 @@ val_is_one zero h = refl
 val_is_one (suc zero) h = refl
 val_is_one (suc (suc p)) h = absurd (not-suc-le-zero (le_of_suc-le-suc (le_of_suc-le-suc h)))
 
--- And, or, xor: one law for operations that shift and are cut digit by digit, and have a table
+-- And, or, xor: the library's laws of digits, by their four cases
 
-module _ (op : ℕ → ℕ → ℕ) (g : Bool → Bool → Bool)
-    (shr : (a b k : ℕ) → op a b / 2 ^ k ≡ op (a / 2 ^ k) (b / 2 ^ k))
-    (low : (a b k : ℕ) → op a b % 2 ^ k ≡ op (a % 2 ^ k) (b % 2 ^ k))
-    (ff : is_one (op 0 0) ≡ g false false) (ft : is_one (op 0 1) ≡ g false true)
-    (tf : is_one (op 1 0) ≡ g true false) (tt' : is_one (op 1 1) ≡ g true true) where
-  digit_op : (p q : ℕ) → p < 2 → q < 2 → is_one (op p q) ≡ g (is_one p) (is_one q)
-  digit_op zero zero hp hq = ff
-  digit_op zero (suc zero) hp hq = ft
-  digit_op (suc zero) zero hp hq = tf
-  digit_op (suc zero) (suc zero) hp hq = tt'
-  digit_op zero (suc (suc q)) hp hq = absurd (not-suc-le-zero (le_of_suc-le-suc (le_of_suc-le-suc hq)))
-  digit_op (suc zero) (suc (suc q)) hp hq = absurd (not-suc-le-zero (le_of_suc-le-suc (le_of_suc-le-suc hq)))
-  digit_op (suc (suc p)) q hp hq = absurd (not-suc-le-zero (le_of_suc-le-suc (le_of_suc-le-suc hp)))
-
-  bit_op : (a b t : ℕ) → bit (op a b) t ≡ g (bit a t) (bit b t)
-  unfolding bit
-  bit_op a b t =
-      ap (λ (x : ℕ). is_one (x % 2)) (shr a b t) ∙ ap is_one (low (a / 2 ^ t) (b / 2 ^ t) 1)
-      ∙ digit_op (a / 2 ^ t % 2) (b / 2 ^ t % 2) (mod-lt (a / 2 ^ t) two_pos) (mod-lt (b / 2 ^ t) two_pos)
+digits : (P : ℕ → ℕ → Type 0) → P 0 0 → P 0 1 → P 1 0 → P 1 1 → (p q : ℕ) → p < 2 → q < 2 → P p q
+digits P a b c d zero zero hp hq = a
+digits P a b c d zero (suc zero) hp hq = b
+digits P a b c d (suc zero) zero hp hq = c
+digits P a b c d (suc zero) (suc zero) hp hq = d
+digits P a b c d zero (suc (suc q)) hp hq = absurd (omega arith)
+digits P a b c d (suc zero) (suc (suc q)) hp hq = absurd (omega arith)
+digits P a b c d (suc (suc p)) q hp hq = absurd (omega arith)
 
 pub bit-and : (a b t : ℕ) → bit (bit_and a b) t ≡ bit a t && bit b t
-bit-and = bit_op bit_and ◌&&◌ and_shr and_mod refl refl refl refl
+unfolding bit
+bit-and a b t =
+    ap is_one (bit_at_and a b t) ∙ digits (λ p q. is_one (min p q) ≡ is_one p && is_one q) refl refl refl refl (bit_at a t) (bit_at b t) (bit_at-lt a t) (bit_at-lt b t)
 
 pub bit-or : (a b t : ℕ) → bit (bit_or a b) t ≡ bit a t || bit b t
-bit-or = bit_op bit_or ◌||◌ or_shr or_mod refl refl refl refl
+unfolding bit
+bit-or a b t =
+    ap is_one (bit_at_or a b t) ∙ digits (λ p q. is_one (max p q) ≡ is_one p || is_one q) refl refl refl refl (bit_at a t) (bit_at b t) (bit_at-lt a t) (bit_at-lt b t)
 
 pub bit-xor : (a b t : ℕ) → bit (bit_xor a b) t ≡ differ (bit a t) (bit b t)
-bit-xor = bit_op bit_xor differ xor_shr xor_mod refl refl refl refl
+unfolding bit
+bit-xor a b t =
+    ap is_one (bit_at_xor a b t) ∙ digits (λ p q. is_one ((p + q) % 2) ≡ differ (is_one p) (is_one q)) refl refl refl refl (bit_at a t) (bit_at b t) (bit_at-lt a t) (bit_at-lt b t)
 
 -- Down a digit
 
 pub bit_suc : (w t : ℕ) → bit w (suc t) ≡ bit (w / 2) t
 unfolding bit
-bit_suc w t = ap (λ (x : ℕ). is_one (x % 2)) (ap (λ (x : ℕ). w / 2 ^ x) (sym (one-add t)) ∙ sym (shr-shr w 1 t))
+bit_suc w t = ap is_one (bit_at-suc w t)
 
 pub bit_zero : (w : ℕ) → bit w 0 ≡ is_one (w % 2)
 unfolding bit
-bit_zero w = ap (λ (x : ℕ). is_one (x % 2)) (div-one w)
+bit_zero w = ap is_one (bit_at_lowest w)
 
 -- a word below 2 ^ k has no bit at k or above
 pub bit_high : (k w t : ℕ) → w < 2 ^ k → k ≤ t → bit w t ≡ false
 unfolding bit
-bit_high k w t h l = ap (λ (x : ℕ). is_one (x % 2)) (div-eq_of_lt (lt_of_lt_of_le h (pow_mono l)))
+bit_high k w t h l = ap is_one (bit_at_above w k t h l)
 
 -- no bit of 0 is one
 pub bit_none : (t : ℕ) → bit 0 t ≡ false
-bit_none t = bit_high 0 0 t (lit< tt) zero-le
+unfolding bit
+bit_none t = ap is_one (bit_at-zero t)
 
 -- Shifts, and cutting off
 
@@ -82,34 +78,15 @@ pub bit_shr : (w s t : ℕ) → bit (w / 2 ^ s) t ≡ bit w (s + t)
 unfolding bit
 bit_shr w s t = ap (λ (x : ℕ). is_one (x % 2)) (shr-shr w s t)
 
-half_lt : {a : ℕ} (k : ℕ) → a < 2 ^ suc k → a / 2 < 2 ^ k
-half_lt {a} k h = shr_lt k 1 (subst (λ (x : ℕ). a < 2 ^ x) (sym (add-one k)) h)
-
 is_one_sub : (d : ℕ) → d < 2 → is_one (1 - d) ≡ not (is_one d)
 is_one_sub zero h = refl
 is_one_sub (suc zero) h = refl
-is_one_sub (suc (suc p)) h = absurd (not-suc-le-zero (le_of_suc-le-suc (le_of_suc-le-suc h)))
-
--- the complement in k bits
-pub bit_not : (k w t : ℕ) → w < 2 ^ k → t < k → bit ((2 ^ k - 1) - w) t ≡ not (bit w t)
-bit_not zero w t h l = absurd (not-suc-le-zero l)
-bit_not (suc k) w zero h l =
-    let e : ((2 ^ suc k - 1) - w) % 2 ≡ 1 - w % 2 = omega (arith, pow-suc 2 k) in
-    bit_zero ((2 ^ suc k - 1) - w) ∙ ap is_one e ∙ is_one_sub (w % 2) (mod-lt w two_pos) ∙ ap not (sym (bit_zero w))
-bit_not (suc k) w (suc t) h l =
-    let e : ((2 ^ suc k - 1) - w) / 2 ≡ (2 ^ k - 1) - w / 2 = omega (arith, pow-suc 2 k) in
-    bit_suc ((2 ^ suc k - 1) - w) t ∙ ap (λ (x : ℕ). bit x t) e
-    ∙ bit_not k (w / 2) t (half_lt k h) (le_of_suc-le-suc l) ∙ ap not (sym (bit_suc w t))
+is_one_sub (suc (suc p)) h = absurd (omega arith)
 
 -- the k low bits
 pub bit_mod : (k w t : ℕ) → t < k → bit (w % 2 ^ k) t ≡ bit w t
-bit_mod zero w t l = absurd (not-suc-le-zero l)
-bit_mod (suc k) w zero l =
-    let e : w % 2 ^ suc k % 2 ≡ w % 2 = ap (λ (x : ℕ). w % 2 ^ x % 2) (sym (add-one k)) ∙ mod-mod-pow w k 1 in
-    bit_zero (w % 2 ^ suc k) ∙ ap is_one e ∙ sym (bit_zero w)
-bit_mod (suc k) w (suc t) l =
-    let e : w % 2 ^ suc k / 2 ≡ w / 2 % 2 ^ k = ap (λ (x : ℕ). w % 2 ^ x / 2) (sym (add-one k)) ∙ field w k 1 in
-    bit_suc (w % 2 ^ suc k) t ∙ ap (λ (x : ℕ). bit x t) e ∙ bit_mod k (w / 2) t (le_of_suc-le-suc l) ∙ sym (bit_suc w t)
+unfolding bit
+bit_mod k w t l = ap is_one (sym (bit_at_cat_low (w / 2 ^ k) k (w % 2 ^ k) t l) ∙ ap (λ x. bit_at x t) (div-add-mod' w (2 ^ k)))
 
 -- A word is its bits
 
@@ -117,13 +94,19 @@ is_one_inj : (p q : ℕ) → p < 2 → q < 2 → is_one p ≡ is_one q → p ≡
 is_one_inj p q hp hq e = sym (val_is_one p hp) ∙ ap val e ∙ val_is_one q hq
 
 pub bits_ext : (k a b : ℕ) → a < 2 ^ k → b < 2 ^ k → ((t : ℕ) → t < k → bit a t ≡ bit b t) → a ≡ b
-bits_ext zero a b ha hb f = lt-one ha ∙ sym (lt-one hb)
-bits_ext (suc k) a b ha hb f =
-    let h : a / 2 ≡ b / 2 = bits_ext k (a / 2) (b / 2) (half_lt k ha) (half_lt k hb)
-    (λ t l. sym (bit_suc a t) ∙ f (suc t) (suc-le-suc l) ∙ bit_suc b t) in
-    let d : a % 2 ≡ b % 2 = is_one_inj (a % 2) (b % 2) (mod-lt a two_pos) (mod-lt b two_pos)
-    (sym (bit_zero a) ∙ f 0 (zero-lt-suc k) ∙ bit_zero b) in
-    sym (div-add-mod' a 2) ∙ ap₂ (λ (x y : ℕ). x * 2 + y) h d ∙ div-add-mod' b 2
+unfolding bit
+bits_ext k a b ha hb f = same_from_bits_below k a b ha hb (λ t l. is_one_inj (bit_at a t) (bit_at b t) (bit_at-lt a t) (bit_at-lt b t) (f t l))
+
+-- the complement in k bits
+pub bit_not : (k w t : ℕ) → w < 2 ^ k → t < k → bit ((2 ^ k - 1) - w) t ≡ not (bit w t)
+bit_not zero w t h l = absurd (omega arith)
+bit_not (suc k) w zero h l =
+    let e : ((2 ^ suc k - 1) - w) % 2 ≡ 1 - w % 2 = omega (arith, pow-suc 2 k) in
+    bit_zero ((2 ^ suc k - 1) - w) ∙ ap is_one e ∙ is_one_sub (w % 2) (mod-lt w two_pos) ∙ ap not (sym (bit_zero w))
+bit_not (suc k) w (suc t) h l =
+    let e : ((2 ^ suc k - 1) - w) / 2 ≡ (2 ^ k - 1) - w / 2 = omega (arith, pow-suc 2 k) in
+    bit_suc ((2 ^ suc k - 1) - w) t ∙ ap (λ (x : ℕ). bit x t) e
+    ∙ bit_not k (w / 2) t (omega (arith, pow-suc 2 k)) (omega arith) ∙ ap not (sym (bit_suc w t))
 
 -- Up by one, with the bit that leaves the word dropped: `w << 1`
 
@@ -152,12 +135,12 @@ bit_mask_above w t s l = bit_high t (bit_and w (2 ^ t - 1)) s (mask_lt w t) l
 eqb_is_one : (d : ℕ) → d < 2 → eqb d 1 ≡ is_one d
 eqb_is_one zero h = refl
 eqb_is_one (suc zero) h = refl
-eqb_is_one (suc (suc p)) h = absurd (not-suc-le-zero (le_of_suc-le-suc (le_of_suc-le-suc h)))
+eqb_is_one (suc (suc p)) h = absurd (omega arith)
 
 -- `(w >> t) & 1 == 1`
 pub test_bit : (w t : ℕ) → eqb (bit_and (w / 2 ^ t) 1) 1 ≡ bit w t
 unfolding bit
-test_bit w t = ap (λ (x : ℕ). eqb x 1) (and_mask (w / 2 ^ t) 1) ∙ eqb_is_one (w / 2 ^ t % 2) (mod-lt (w / 2 ^ t) two_pos)
+test_bit w t = ap (λ (x : ℕ). eqb x 1) (shr_and_one w t) ∙ eqb_is_one (bit_at w t) (bit_at-lt w t)
 
 -- `1 << t`
 pub one_shl : (k t : ℕ) → t < k → (1 * 2 ^ t) % 2 ^ k ≡ 2 ^ t
@@ -194,7 +177,8 @@ bit_with_zero w (suc t) = bit-or w 1 (suc t) ∙ ap (λ b. bit w (suc t) || b) (
 
 -- every bit of the largest word is one
 pub bit_ones : (k t : ℕ) → t < k → bit (2 ^ k - 1) t ≡ true
-bit_ones k t l = rw sub-zero at (bit_not k 0 t (pow_pos k) l ∙ ap not (bit_none t))
+unfolding bit
+bit_ones k t l = ap is_one (bit_at_ones k t l)
 
 pub bit_below : (w t u : ℕ) → bit (bit_and w (2 ^ t - 1)) u ≡ ltb u t && bit w u
 bit_below w t u = go (dec_lt u t)
@@ -235,20 +219,12 @@ bit_mask_from k w t u l h = bit-and w ((2 ^ k - 1) - (2 ^ t - 1)) u ∙ and_comm
 -- One bit put into a word
 
 bit_pow_same : (t : ℕ) → bit (2 ^ t) t ≡ true
-bit_pow_same zero = bit_zero 1
-bit_pow_same (suc t) =
-    let e : (2 ^ t * 2) / 2 ≡ 2 ^ t = omega arith in
-    rw (pow-suc 2 t) (bit_suc (2 ^ t * 2) t ∙ ap (λ w. bit w t) e ∙ bit_pow_same t)
+unfolding bit
+bit_pow_same t = ap is_one (bit_at-pow_same t)
 
 bit_pow_other : (t u : ℕ) → ¬ (u ≡ t) → bit (2 ^ t) u ≡ false
-bit_pow_other zero zero n = absurd (n refl)
-bit_pow_other zero (suc u) n = bit_suc 1 u ∙ bit_none u
-bit_pow_other (suc t) zero n =
-    let e : (2 ^ t * 2) % 2 ≡ 0 = omega arith in
-    rw (pow-suc 2 t) (bit_zero (2 ^ t * 2) ∙ ap is_one e)
-bit_pow_other (suc t) (suc u) n =
-    let e : (2 ^ t * 2) / 2 ≡ 2 ^ t = omega arith in
-    rw (pow-suc 2 t) (bit_suc (2 ^ t * 2) u ∙ ap (λ w. bit w u) e ∙ bit_pow_other t u (λ q. n (ap suc q)))
+unfolding bit
+bit_pow_other t u n = ap is_one (bit_at-pow_other t u n)
 
 -- `w | (1 << t)`
 pub bit_put_one : (w t u : ℕ) → bit (bit_or w (2 ^ t)) u ≡ cond (eqb u t) true (bit w u)

@@ -1,6 +1,6 @@
 -- `card_wiring::with_level` meets its contract. The loop's invariant: the order has the lower levels and, of level l, the nets so far. Assumes nothing.
 use mathlib.Core.Path.{◌≡◌, sym, ap, ◌∙◌}
-use mathlib.Core.List.{◌++◌, append-nil}
+use mathlib.Core.List.{◌++◌}
 use Prim.Native.Nat.{◌-◌}
 use native.Mathlib.Omega.{arith}
 use lib.Dec.{eqb}
@@ -19,9 +19,6 @@ push-requires c =
     let a = c.args in
     let fits = order_room a.levels.now a.n a.l l.g c.requires.1 (omega arith) c.if-levels-g.true in
     (omega (arith, c.requires.0), omega (arith, c.requires.0, ap (λ o. o.gates) l.invariant))
-
-pub loop-g-init : goal.loop-g-init
-loop-g-init c = c.requires.2 ∙ ap as_order (sym (append-nil (order_of c.args.levels.now c.args.n (c.args.l - 1))))
 
 pub loop-g-preserved : goal.loop-g-preserved
 loop-g-preserved c =

@@ -31,6 +31,3 @@ returns-else-eq c =
 
 pub loop-preserved : goal.loop-preserved
 loop-preserved c = c.sweep-next.ensures c.loop.counter c.loop.invariant
-
-pub returns : goal.returns
-returns c = absurd (omega (arith, c.loop.auto.counter-end))

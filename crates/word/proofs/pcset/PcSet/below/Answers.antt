@@ -2,7 +2,6 @@
 use mathlib.Core.Path.{ap, ◌∙◌}
 use Prim.Native.Nat.{ℕ, ◌-◌, ◌<◌}
 use native.Mathlib.Omega.{arith}
-use lib.Pow.{pow_pos}
 use lib.Bits.{bit_and}
 use Rattle.word.specs.Word.{bit}
 use Rattle.word.proofs.Bits.{all_below, one_shl, bit_below}
@@ -10,11 +9,6 @@ use Rattle.word.proofs.pcset.PcSet.below.Goals as goal
 
 pub returns-then-t-ge64 : goal.returns-then-t-ge64
 returns-then-t-ge64 c u = let a = c.args in all_below 64 a.self.word a.t u (omega arith) (omega arith)
-
-pub overflow_sub-result : goal.overflow_sub-result
-overflow_sub-result c =
-    let l : c.args.t < 64 = omega arith in
-    omega (arith, one_shl 64 c.args.t l, pow_pos c.args.t)
 
 pub returns : goal.returns
 returns c u =

@@ -12,10 +12,6 @@ pub returns-then-self-eq0 : goal.returns-then-self-eq0
 returns-then-self-eq0 c =
     sym (greatest_none (bit c.args.self.word) 64 64 (λ s l. ap (λ (w : ℕ). bit w s) c.if-self-eq0.true ∙ bit_none s))
 
-pub overflow_sub-result : goal.overflow_sub-result
-overflow_sub-result c =
-    omega (arith, leading_greatest 64 c.args.self.word 64 (pos_of_ne-zero c.if-self-eq0.false) (omega arith))
-
 pub returns : goal.returns
 returns c =
     omega (arith, leading_greatest 64 c.args.self.word 64 (pos_of_ne-zero c.if-self-eq0.false) (omega arith))

@@ -2,7 +2,6 @@
 use mathlib.Core.Path.{sym, ap, ◌∙◌}
 use Prim.Native.Nat.{ℕ, ◌-◌, ◌^◌, ◌<◌}
 use native.Mathlib.Omega.{arith}
-use lib.Pow.{pow_pos}
 use lib.Bits.{bit_and}
 use Rattle.word.specs.Word.{bit}
 use Rattle.word.proofs.Bits.{bit_none, past_none, one_shl, bit_mask_from}
@@ -12,11 +11,6 @@ pub returns-then-t-ge64 : goal.returns-then-t-ge64
 returns-then-t-ge64 c u =
     let a = c.args in
     bit_none u ∙ sym (past_none 64 a.self.word a.t u (omega arith) (omega arith))
-
-pub overflow_sub-result : goal.overflow_sub-result
-overflow_sub-result c =
-    let l : c.args.t < 64 = omega arith in
-    omega (arith, one_shl 64 c.args.t l, pow_pos c.args.t)
 
 pub returns : goal.returns
 returns c u =
