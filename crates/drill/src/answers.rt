@@ -1,5 +1,6 @@
 // The answers' text, behind a buffer of fixed size, since there is no heap.
-ghost use Rattle.std.specs.Prelude.{◌≡◌, ◌≤◌, IfOk};
+ghost use Rattle.std.specs.Prelude.{◌≡◌, ◌+◌, ◌≤◌, IfOk, set};
+ghost use Rattle.drill.specs.Inner.Kept.{slot};
 
 use rule::{Answer, NetAnswer};
 use std::fmt::Display;
@@ -43,11 +44,7 @@ impl Write for Output<'_> {
     // Takes all of the bytes; a full room is written out first.
     fn write(&mut self, bytes: &[u8]) -> io::Result<usize> {
         for b in bytes {
-            if self.at == 8192 {
-                self.write_out()?;
-            }
-            self.room[self.at] = *b;
-            self.at += 1;
+            self.put(*b)?;
         }
         Ok(bytes.len())
     }
@@ -65,12 +62,25 @@ impl<'a> Output<'a> {
 
     // Writes out what stands in the room, which is empty then.
     fn write_out(&mut self) -> io::Result<()>
-        ensures { IfOk result (λ _. self.new.at ≡ 0) }
+        ensures { IfOk result (λ _. (self.new.at ≡ 0) × (self.new.room.now ≡ self.old.room.now)) }
     {
         let mut to = self.to;
-        let room = &mut *self.room;
+        let room = &*self.room;
         to.write_all(&room[..self.at])?;
         self.at = 0;
+        Ok(())
+    }
+
+    // One byte; a full room is written out first.
+    fn put(&mut self, b: u8) -> io::Result<()>
+        ensures { IfOk result
+            (λ _. (self.new.at ≡ slot self.old.at + 1) × (self.new.room.now ≡ set self.old.room.now (slot self.old.at) b)) }
+    {
+        if self.at == 8192 {
+            self.write_out()?;
+        }
+        self.room[self.at] = b;
+        self.at += 1;
         Ok(())
     }
 

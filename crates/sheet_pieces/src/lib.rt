@@ -22,6 +22,7 @@ pub enum Stage {
 }
 
 // A sheet between two pieces: the session and its card's depth, the place of the next record, and the number of vectors so far.
+// `Standing` stays a clause and no ghost field: `begin_promises`, `next_promises` and `AsksNothing` (demands/proofs/Results.antt) speak of it.
 #[derive(Clone, Copy)]
 pub struct Sheet {
     pub session: Session,
