@@ -1,7 +1,7 @@
 // The bench run: the first steps of an order that was judged, and the byte of each.
 #![tactic(auto)]
 
-ghost use Rattle.std.specs.Prelude.{◌≡◌, true, false, cond, ℕ, ◌<◌, ◌≤◌, eqb, length, get_or, take};
+ghost use Rattle.std.specs.Prelude.{◌≡◌, true, false, cond, ℕ, ◌<◌, ◌≤◌, eqb, length, get_or};
 ghost use Rattle.lists.specs.Entries.{some};
 ghost use Rattle.lists.specs.Listed.{listed};
 ghost use Rattle.lists.specs.Filled.{filled};

@@ -1,14 +1,12 @@
 // The wiring of a card that is laid out in arrays: counts says how many pins each net has, places what they name, 8 places a net.
 #![tactic(auto)]
 
-ghost use Rattle.std.specs.Prelude.{◌≡◌, IfSome, is_some, map, true, ◌⊎◌, ℕ, ◌+◌, ◌-◌, ◌*◌, ◌<◌, ◌≤◌, max, eqb, length, get_or, take};
+ghost use Rattle.std.specs.Prelude.{◌≡◌, IfSome, is_some, map, true, ◌⊎◌, ℕ, ◌+◌, ◌-◌, ◌*◌, ◌<◌, ◌≤◌, length, get_or, take};
 ghost use Rattle.lists.specs.Entries.{every};
-ghost use Rattle.lists.specs.Listed.{listed};
-ghost use Rattle.word.specs.Word.{val};
 ghost use Rattle.rule.specs.Net.{open_pin, at_pin};
 ghost use Rattle.rule.specs.Level.{over};
 ghost use Rattle.card_wiring.specs.Layout.{pins_at};
-ghost use Rattle.card_wiring.specs.Inner.Wires.{Wires, Fitting, all_fit, backs, highest, order_of, joined, source_set, sets_along, sizes_of};
+ghost use Rattle.card_wiring.specs.Inner.Wires.{Wires, all_fit, backs, highest, order_of, joined, source_set, sets_along, sizes_of};
 ghost use Rattle.card_wiring.specs.Wired.{pin_fits};
 ghost use Rattle.card_wiring.specs.Inner.Wired.{as_order, with_gate, set_wired, arrays_wired};
 

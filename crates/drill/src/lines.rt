@@ -1,5 +1,5 @@
 // Each operation by its line: it is called, and its answer put.
-ghost use Rattle.std.specs.Prelude.{◌≡◌, [], ◌≤◌, length, get_or};
+ghost use Rattle.std.specs.Prelude.{[], ◌≤◌, length, get_or};
 ghost use Rattle.drill_words.specs.Parts.{words};
 ghost use Rattle.drill_words.specs.Digits.{bytes_of};
 ghost use Rattle.drill_words.specs.Filled.{Filled};

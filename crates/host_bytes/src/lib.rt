@@ -92,6 +92,9 @@ fn put_area(b: &mut [u8], at: usize, to: usize, v: &[u8])
     room[n..].fill(0);
 }
 
+// That the bytes are as long as a session is asked in a clause of each function and by no type: `host` tests it once, of the slice that C lends, and one struct over
+// `&[u8]` and one over `&mut [u8]` would be made of that slice again for each, which is no plainer.
+
 // A card that was just loaded: its bytes, and no vector.
 fn keep_card(b: &mut [u8], card: &[u8])
     requires { session_length ≤ length b.old }

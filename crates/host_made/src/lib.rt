@@ -10,6 +10,8 @@ use card::Session;
 use host_bytes::{CARD_AT, CARD_TO, LAST_AT, LONGEST_CARD, OLDER_AT, SESSION_LENGTH, State};
 use operations::Engine;
 
+// That the bytes are as long as a session is asked in a clause of each function, as in `host_bytes`.
+
 // Whether the two rooms for vectors hold so many bytes each, and zeros past them.
 fn rooms_fit(b: &[u8], older: usize, last: usize) -> bool
     requires { (session_length ≤ length b.now) × (older ≤ 256) × (last ≤ 256) }

@@ -1,10 +1,10 @@
 // The variables of the steps, kept as words: what a step reads, one step, and the histories that the variables mean.
 #![tactic(auto)]
 
-ghost use Rattle.std.specs.Prelude.{◌≡◌, map, ◌⊎◌, ℕ, ◌+◌, ◌<◌, ◌≤◌, length, get_or};
+ghost use Rattle.std.specs.Prelude.{◌≡◌, ◌⊎◌, ℕ, ◌<◌, ◌≤◌, length, get_or};
 ghost use Rattle.rule.specs.Net.{open_pin};
 ghost use Rattle.card_wiring.specs.Inner.Wires.{Gates};
-ghost use Rattle.step_vars.specs.Variables.{held_in, vars_of, read_in, step_in, history_word, histories_from};
+ghost use Rattle.step_vars.specs.Variables.{held_in, read_in, step_in, history_word, histories_from};
 ghost use Rattle.step_vars.specs.Inner.Variables.{StepTime, Words, start_in};
 
 use card_wiring::Wiring;
