@@ -36,7 +36,7 @@ fn pin_fits(p: u16, n: usize) -> bool
     usize::from(p) < n || p == OPEN
 }
 
-// Whether every pin of net g fits.
+// Whether every pin of net g fits. `Wires` is a clause here, in `all_fit` and in `wire`, and no `Wiring`: the arrays are judged, and may not fit.
 fn net_fits<'a>(counts: &'a [u8; 256], places: &'a [u16; 2048], n: usize, g: usize) -> bool
     requires wires { Wires counts.now places.now n }
     requires g_bound { g < 256 }

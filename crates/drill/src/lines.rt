@@ -20,7 +20,8 @@ pub struct Drill<'a> {
     answers: Output<'a>,
 }
 
-// The bytes of a line's word 1, put at the start of `bytes`; how many there are.
+// The bytes of a line's word 1, put at the start of `bytes`; how many there are. The line's length is a clause of three methods, since `command_of` says it of the
+// line that it took, and it goes no further.
 fn bytes_of(line: &[u8], bytes: &mut [u8]) -> usize
     requires line_len_bound { length line.now ≤ 140000 }
     requires in_bounds { 70000 ≤ length bytes.old }

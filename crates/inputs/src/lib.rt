@@ -97,7 +97,8 @@ pub fn tops(words: &[u64; 256]) -> [bool; 256]
     array::from_fn(|n| top(words[n]))
 }
 
-// A vector's values in the inputs' words, at every time: the net of input j has byte j.
+// A vector's values in the inputs' words, at every time: the net of input j has byte j. What it asks of the vector and of the inputs' places the engines ask too: a
+// struct of the two would be made at each run and taken apart here alone, which is no plainer.
 pub fn put_inputs<'a>(words: &mut [u64; 256], inputs: &'a [u16; 256], v: &'a [u8])
     requires { (length v.now ≤ 256) × ((j : ℕ) → get_or inputs.now j 0 < 256) }
     ensures { words.new ≡ nets_put inputs.now (byte_word v.now) (length v.now) words.old }

@@ -10,7 +10,8 @@ use card::Session;
 use card_wiring::Wiring;
 use rule::Answer;
 
-// A vector that fits, run by fields in the session's own words: the last values at 63 are the before values.
+// A vector that fits, run by fields in the session's own words: the last values at 63 are the before values. That it fits is a clause, here and in the other runs:
+// a type for it would hold the session too, and be made by `judge` alone, right ahead of the run, which is no plainer.
 fn run_fields(s: &mut Session, v: &[u8])
     requires good { Good s.old }
     requires rested_value { (s.old.rested ≡ true) × (length v.now ≡ s.old.inputs) }
