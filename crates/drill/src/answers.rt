@@ -1,11 +1,11 @@
-// The answers' text, behind a buffer of fixed size, since there is no heap.
-ghost use Rattle.std.specs.Prelude.{◌≡◌, ◌+◌, ◌≤◌, IfOk, set};
+// The answers' text, behind a buffer of fixed size, since there is no heap. A write to it cannot fail: how the writes to standard output ended is kept, and said at the end.
+ghost use Rattle.std.specs.Prelude.{◌≡◌, ◌+◌, ◌≤◌, set};
 ghost use Rattle.drill.specs.Inner.Kept.{slot};
 
 use rule::{Answer, NetAnswer};
 use std::fmt::Display;
 use std::io::{Stdout, Write};
-use std::{fmt, io};
+use std::{fmt, io, mem};
 use step_records::StepRecord;
 
 // A word, shown in hex.
@@ -31,88 +31,96 @@ impl Display for Step {
     }
 }
 
-// Standard output, and the first bytes of a room that are still to be written to it.
+// Standard output, the first bytes of a room that are still to be written to it, and how the writes ended so far: after one that failed there is none.
 #[derive(Drop)]
 pub struct Output<'a> {
     to: Stdout,
     room: &'a mut [u8; 8192],
     at: usize,
+    ended: io::Result<()>,
     ghost within: { at ≤ 8192 },
 }
 
 impl Write for Output<'_> {
-    // Takes all of the bytes; a full room is written out first.
+    // Takes all of the bytes.
     fn write(&mut self, bytes: &[u8]) -> io::Result<usize> {
         for b in bytes {
-            self.put(*b)?;
+            self.put(*b);
         }
         Ok(bytes.len())
     }
 
     fn flush(&mut self) -> io::Result<()> {
-        self.write_out()
+        self.write_out();
+        Ok(())
     }
 }
 
 impl<'a> Output<'a> {
     // Nothing is written yet.
     pub fn new(to: Stdout, room: &'a mut [u8; 8192]) -> Output<'a> {
-        Output { to, room, at: 0 }
+        Output {
+            to,
+            room,
+            at: 0,
+            ended: Ok(()),
+        }
     }
 
-    // Writes out what stands in the room, which is empty then.
-    fn write_out(&mut self) -> io::Result<()>
-        ensures { IfOk result (λ _. (self.new.at ≡ 0) × (self.new.room.now ≡ self.old.room.now)) }
+    // Writes out what stands in the room, which counts as empty then.
+    fn write_out(&mut self)
+        ensures { (self.new.at ≡ 0) × (self.new.room.now ≡ self.old.room.now) }
     {
         let mut to = self.to;
-        let room = &*self.room;
-        to.write_all(&room[..self.at])?;
+        let so_far = &*self;
+        if so_far.ended.is_ok() {
+            let room = &*self.room;
+            self.ended = to.write_all(&room[..self.at]);
+        }
         self.at = 0;
-        Ok(())
     }
 
     // One byte; a full room is written out first.
-    fn put(&mut self, b: u8) -> io::Result<()>
-        ensures { IfOk result
-            (λ _. (self.new.at ≡ slot self.old.at + 1) × (self.new.room.now ≡ set self.old.room.now (slot self.old.at) b)) }
+    pub fn put(&mut self, b: u8)
+        ensures { (self.new.at ≡ slot self.old.at + 1) × (self.new.room.now ≡ set self.old.room.now (slot self.old.at) b) }
     {
         if self.at == 8192 {
-            self.write_out()?;
+            self.write_out();
         }
         self.room[self.at] = b;
         self.at += 1;
-        Ok(())
+    }
+
+    // Writes out what is left; how the writes ended.
+    pub fn end(&mut self) -> io::Result<()> {
+        self.write_out();
+        mem::replace(&mut self.ended, Ok(()))
     }
 
     // What an operation answers: its number, and its count, which is 0 for a refusal.
-    pub fn put_answer(&mut self, answer: Answer) -> io::Result<()> {
+    pub fn put_answer(&mut self, answer: Answer) {
         let number = rule::number(&answer);
         let count = answer.unwrap_or(0);
-        write!(self, "{number} {count}")
+        let _ = write!(self, "{number} {count}");
     }
 
     // What the question about a net answers, with level and word.
-    pub fn put_net(&mut self, answer: NetAnswer) -> io::Result<()> {
+    pub fn put_net(&mut self, answer: NetAnswer) {
         let number = rule::number(&answer);
         let facts = answer.unwrap_or_default();
         let level = facts.level;
         let word = Hex(facts.word);
-        write!(self, "{number} 0 {level} {word}")
+        let _ = write!(self, "{number} 0 {level} {word}");
     }
 
     // A lent room, entry by entry, each as it is shown.
-    pub fn put_room<T, D: Display + Drop, F: Fn(&T) -> D>(
-        &mut self,
-        room: &[T],
-        shown: F,
-    ) -> io::Result<()>
+    pub fn put_room<T, D: Display + Drop, F: Fn(&T) -> D>(&mut self, room: &[T], shown: F)
         requires { F.IsAlwaysCallable shown }
     {
-        write!(self, " |")?;
+        let _ = write!(self, " |");
         for entry in room {
             let text = shown(entry);
-            write!(self, " {text}")?;
+            let _ = write!(self, " {text}");
         }
-        Ok(())
     }
 }

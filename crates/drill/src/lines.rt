@@ -9,7 +9,6 @@ use crate::held::Held;
 use drill_text::Command;
 use operations::{Engine, Move};
 use std::io;
-use std::io::Write;
 use step_records::StepRecord;
 
 // What goes on from line to line: the session, room for the bytes of a line, and the answers.
@@ -41,23 +40,23 @@ impl<'a> Drill<'a> {
     }
 
     // load HEX, rest HEX, vector HEX, steps HEX
-    fn move_line(&mut self, how: Move, line: &[u8]) -> io::Result<()>
+    fn move_line(&mut self, how: Move, line: &[u8])
         requires { length line.now ≤ 140000 }
     {
         let bytes = &mut *self.bytes;
         let n = bytes_of(line, bytes);
         let answer = self.held.operate(how, &bytes[..n]);
-        self.answers.put_answer(answer)
+        self.answers.put_answer(answer);
     }
 
     // net N
-    fn net_line(&mut self, n: u64) -> io::Result<()> {
+    fn net_line(&mut self, n: u64) {
         let answer = self.held.net(n);
-        self.answers.put_net(answer)
+        self.answers.put_net(answer);
     }
 
     // history WORDS BEFORES FLAGS
-    fn history_line(&mut self, a: u64, b: u64, c: u64) -> io::Result<()>
+    fn history_line(&mut self, a: u64, b: u64, c: u64)
         requires { (a ≤ 20000) × (b ≤ 20000) × (c ≤ 20000) }
     {
         let mut words = [170u64; 20000];
@@ -67,14 +66,14 @@ impl<'a> Drill<'a> {
         let befores = &mut befores[..b as usize];
         let flags = &mut flags[..c as usize];
         let answer = self.held.history(words, befores, flags);
-        self.answers.put_answer(answer)?;
-        self.answers.put_room(words, |word| Hex(*word))?;
-        self.answers.put_room(befores, |value| *value)?;
-        self.answers.put_room(flags, |flag| *flag)
+        self.answers.put_answer(answer);
+        self.answers.put_room(words, |word| Hex(*word));
+        self.answers.put_room(befores, |value| *value);
+        self.answers.put_room(flags, |flag| *flag);
     }
 
     // list NETS TIMES
-    fn list_line(&mut self, a: u64, b: u64) -> io::Result<()>
+    fn list_line(&mut self, a: u64, b: u64)
         requires { (a ≤ 20000) × (b ≤ 20000) }
     {
         let mut nets = [170u16; 20000];
@@ -82,13 +81,13 @@ impl<'a> Drill<'a> {
         let nets = &mut nets[..a as usize];
         let times = &mut times[..b as usize];
         let answer = self.held.list(nets, times);
-        self.answers.put_answer(answer)?;
-        self.answers.put_room(nets, |net| *net)?;
-        self.answers.put_room(times, |time| *time)
+        self.answers.put_answer(answer);
+        self.answers.put_room(nets, |net| *net);
+        self.answers.put_room(times, |time| *time);
     }
 
     // records ROOM
-    fn records_line(&mut self, n: u64) -> io::Result<()>
+    fn records_line(&mut self, n: u64)
         requires { n ≤ 20000 }
     {
         let mut records = [StepRecord {
@@ -97,23 +96,23 @@ impl<'a> Drill<'a> {
         }; 20000];
         let records = &mut records[..n as usize];
         let answer = self.held.records(records);
-        self.answers.put_answer(answer)?;
-        self.answers.put_room(records, |step| Step(*step))
+        self.answers.put_answer(answer);
+        self.answers.put_room(records, |step| Step(*step));
     }
 
     // trace N TIME ROOM
-    fn trace_line(&mut self, n: u64, t: u64, k: u64) -> io::Result<()>
+    fn trace_line(&mut self, n: u64, t: u64, k: u64)
         requires { k ≤ 20000 }
     {
         let mut nets = [170u16; 20000];
         let nets = &mut nets[..k as usize];
         let answer = self.held.trace(n, t, nets);
-        self.answers.put_answer(answer)?;
-        self.answers.put_room(nets, |net| *net)
+        self.answers.put_answer(answer);
+        self.answers.put_room(nets, |net| *net);
     }
 
     // bench HEX ORDER K ROOM
-    fn bench_line(&mut self, line: &[u8], k: u64, room: u64) -> io::Result<()>
+    fn bench_line(&mut self, line: &[u8], k: u64, room: u64)
         requires line_len_bound { length line.now ≤ 140000 }
         requires room_bound { room ≤ 20000 }
     {
@@ -124,12 +123,12 @@ impl<'a> Drill<'a> {
         let n = bytes_of(line, bytes);
         let m = drill_words::order_into(drill_words::word(line, 2), &mut entries);
         let answer = self.held.bench(&bytes[..n], &entries[..m], k, values);
-        self.answers.put_answer(answer)?;
-        self.answers.put_room(values, |value| *value)
+        self.answers.put_answer(answer);
+        self.answers.put_room(values, |value| *value);
     }
 
     // The answer to a line, without its LF. An operation is a method and an arm here: the lines differ in what they carry, so a table of functions is no plainer.
-    fn answer(&mut self, line: &[u8]) -> io::Result<()> {
+    fn answer(&mut self, line: &[u8]) {
         match drill_text::command_of(line) {
             Some(Command::Load) => self.move_line(Move::Load, line),
             Some(Command::Rest) => self.move_line(Move::Rest, line),
@@ -141,16 +140,16 @@ impl<'a> Drill<'a> {
             Some(Command::History(a, b, c)) => self.history_line(a, b, c),
             Some(Command::Trace(n, t, k)) => self.trace_line(n, t, k),
             Some(Command::Net(n)) => self.net_line(n),
-            None => write!(self.answers, "?"),
+            None => self.answers.put(b'?'),
         }
     }
 
-    // The answers to a script, a line each.
+    // The answers to a script, a line each; how the writes of them ended.
     pub fn run(&mut self, script: &[u8]) -> io::Result<()> {
         for line in script.split_inclusive(|b| *b == b'\n') {
-            self.answer(line.strip_suffix(b"\n").unwrap_or(line))?;
-            writeln!(self.answers)?;
+            self.answer(line.strip_suffix(b"\n").unwrap_or(line));
+            self.answers.put(b'\n');
         }
-        self.answers.flush()
+        self.answers.end()
     }
 }
