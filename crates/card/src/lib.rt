@@ -87,7 +87,7 @@ pub fn empty() -> Session
     }
 }
 
-// How many of the first n nets are inputs.
+// How many of the first n nets are inputs: kinds are document 01's numbers in the arrays, as in `inputs`.
 pub fn inputs_below(kinds: &[u8; 256], n: usize) -> usize
     requires { n ≤ 256 }
     ensures { result ≡ count (λ g. eqb (get_or kinds.now g 0) 1) n }
@@ -126,7 +126,7 @@ fn conclude(session: &mut Session, inputs: usize, card: &Parsed) -> Answer
     Ok(card.nets)
 }
 
-// A card that was read: 9, then 4, 5, 6, 7; else it replaces the old one.
+// A card that was read: 9, then 4, 5, 6, 7; else it replaces the old one. `Wires` stays a clause of it and of `conclude`: the arrays are judged, and may not fit.
 fn judge(session: &mut Session, card: &Parsed) -> Answer
     requires { Wires card.now.counts card.now.places card.now.nets }
     ensures { record { answer = result; session = session.new }
@@ -147,7 +147,8 @@ pub fn load(session: &mut Session, bytes: &[u8]) -> Answer
     judge(session, &card)
 }
 
-// A net's level, worked out from the wiring at each asking, and its PC-set.
+// A net's level, worked out from the wiring at each asking, and its PC-set. `Carded`, as `Good` in the operations above, stays a clause and is no invariant of a session:
+// load takes any, and `asks_nothing` (demands) says what each operation asks.
 pub fn ask_net(s: &Session, n: u64) -> NetAnswer
     requires { Carded s.now }
     ensures { result ≡ net_asked s.now n }

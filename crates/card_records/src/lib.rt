@@ -31,7 +31,7 @@ pub enum Fault {
     BadBody(usize),
 }
 
-// A net's record: its kind, a constant's value or a gate's type, where its pins start, how many there are, and where the next record starts.
+// A net's record, in numbers as a session's arrays have them: its kind, a constant's value or a gate's type, where its pins start, how many there are, and where the next record starts.
 #[derive(Clone, Copy, Debug, PartialEq, Eq)]
 pub struct NetRecord {
     pub kind: u8,

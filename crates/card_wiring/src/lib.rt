@@ -16,7 +16,7 @@ use rule::Refusal;
 use std::array;
 use word::PcSet;
 
-// The value of a pin that names no net.
+// The value of a pin that names no net: ffff in a card's bytes and in its arrays, so no Option.
 pub const OPEN: u16 = 65535;
 
 // What the pins of net g name.
@@ -66,7 +66,7 @@ pub struct Wiring<'a> {
 }
 
 impl<'a> Wiring<'a> {
-    // The wiring that the arrays have, if every pin fits.
+    // The wiring that the arrays have, if every pin fits; of any arrays that can be gone over (`Wires`).
     fn of(counts: &'a [u8; 256], places: &'a [u16; 2048], nets: usize) -> Option<Wiring<'a>>
         requires { Wires counts.now places.now nets }
         ensures some { is_some result ≡ all_fit counts.now places.now nets }

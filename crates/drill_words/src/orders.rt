@@ -23,7 +23,7 @@ fn entry_of(word: &[u8]) -> u16
     number_of(word).map_or(u16::MAX, |n| u16::try_from(n).unwrap_or(u16::MAX))
 }
 
-// The entries of an order, put at the start of `out`; how many there are.
+// The entries of an order, put at the start of `out`; how many there are, so they are counted beside the `for`.
 pub fn order_into(word: &[u8], out: &mut [u16]) -> usize
     requires { length word.now < length out.old }
     ensures { Filled (order_spelled word.now) out.old out.new result }

@@ -29,8 +29,8 @@ fn made_plain(s: Session, b: &[u8]) -> Option<Session>
     rooms_fit(b, 0, 0).then_some(s)
 }
 
-// A card at rest made again. That the session is good and its inputs few is a clause of three functions that are called one after another: `Good` is no proposition,
-// which a ghost field has to be.
+// A card at rest made again. That the session is good and its inputs few is a clause of three functions that call one another: a type for it would be made and
+// taken apart within one call of `made_again`, which is no plainer.
 fn made_rested(mut s: Session, b: &[u8]) -> Option<Session>
     requires good { Good s × (s.inputs ≤ 256) }
     requires session_length_in_bounds { session_length ≤ length b.now }

@@ -19,7 +19,8 @@ use operations::Engine;
 use rule::{Answer, Refusal};
 use step_vars::{Circuit, StepList};
 
-// The card's step list where an engine goes along it, made once for many vectors; its length is handed back. A match, as in `run_one`.
+// The card's step list where an engine goes along it, made once for many vectors; its length is handed back. A match, as in `run_one`; by fields the list is
+// empty and nothing reads it: an Option of it would be asked for each vector.
 fn list_for(engine: Engine, s: &Session, nets: &mut [u16; 4096], times: &mut [u8; 4096]) -> usize
     requires held { HasCard s.now }
     requires nets_len { (length nets.old ≡ 4096) × (length times.old ≡ 4096) }

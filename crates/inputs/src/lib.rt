@@ -16,7 +16,7 @@ const BYTE_LIMIT: u8 = 2;
 
 // Kinds and types are document 01's numbers here, as a session's arrays and the definitions over them have them: an enum would be made of each entry again.
 
-// The nets that are inputs, in their order, at the front.
+// The nets that are inputs, in their order, at the front. The place is counted by hand: tried as a zip with `iter_mut`, and the proof did not close.
 pub fn input_nets<'a>(kinds: &'a [u8; 256]) -> [u16; 256]
     ensures { result ≡ input_nets kinds.now 256 }
 {

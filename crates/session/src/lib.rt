@@ -58,7 +58,7 @@ fn settle(s: &mut Session, v: &[u8])
     s.words = flat;
 }
 
-// A rest vector.
+// A rest vector. `Good` stays a clause, here and in every operation: see `card::ask_net`.
 pub fn rest(s: &mut Session, v: &[u8]) -> Answer
     requires { Good s.old }
     ensures { record { answer = result; session = s.new } ≡ rest_of s.old v.now }

@@ -23,7 +23,8 @@ pub struct Advanced {
     pub count: usize,
 }
 
-// The entries of an order of step numbers, one step after another; the count of the steps done is handed back.
+// The entries of an order of step numbers, one step after another; the count of the steps done is handed back: "The run counts its steps in the result"
+// (document 01), one by one.
 pub fn run_order<'a>(
     vars: &mut [u64; 256],
     circuit: Circuit,

@@ -43,14 +43,14 @@ impl PcSet {
         self.word.count_ones()
     }
 
-    // The least time; 64 where the set is empty, as its definition has it: times are compared with it, and an Option is no plainer.
+    // The least time; 64 where the set is empty, as its clause has always said: a number and no Option.
     pub fn least(self) -> u32
         ensures { result ≡ least (bit self.word) 64 }
     {
         self.word.trailing_zeros()
     }
 
-    // The largest time; 64 where the set is empty.
+    // The largest time; 64 where the set is empty, likewise.
     pub fn most(self) -> u32
         ensures { result ≡ greatest (bit self.word) 64 no_time }
     {
