@@ -8,10 +8,11 @@ use native.Mathlib.Numerals.{add-one}
 use native.Mathlib.Omega.{arith}
 use native.Mathlib.Decide.{dec_lt}
 use lib.ListN.{length, get_or, take, replicate}
+use borrow.Author.Tests.{lt-ltb, le-ltb}
 use Rattle.std.specs.Prelude.{fold}
 use Rattle.std.proofs.lemmas.List.{take_more}
 use Rattle.lists.specs.Entries.{from}
-use Rattle.lists.specs.Listed.{listed}
+use Rattle.lists.specs.Listed.{listed, upto}
 use Rattle.lists.proofs.Joined.{from_more}
 use Rattle.lists.proofs.Listed.{listed_at, listed_ext, listed_all, listed_same}
 use Rattle.rule.specs.Net.{open_pin, at_pin}
@@ -75,6 +76,14 @@ module _ (w : ℕ → ℕ) (counts places : List ℕ) (n : ℕ) (wires : Wires c
 
   past_none : (k g : ℕ) → n ≤ g → back k g ≡ 0
   past_none k g l = longest_none (pins_at counts places) w k g (no_pins counts places n g wires l)
+
+  -- past the card's nets there is nothing to follow
+  pub over_front : (f : ℕ → ℕ) → listed (upto (λ g. over 1 (map f (pins_at counts places g))) (λ g. 0) n) 256 ≡ listed (λ g. over 1 (map f (pins_at counts places g))) 256
+  over_front f = listed_ext _ _ 256 (λ g b. go g (dec_lt g n))
+    where
+      go : (g : ℕ) → Dec (g < n) → upto (λ g. over 1 (map f (pins_at counts places g))) (λ g. 0) n g ≡ over 1 (map f (pins_at counts places g))
+      go g (yes l) = rw (lt-ltb g n l)
+      go g (no l) = rw (le-ltb g n (omega arith), no_pins counts places n g wires (omega arith))
 
   -- one net more is swept; all of them
   swept : (k g : ℕ) (old : List ℕ) → all_fit counts places n ≡ true → old ≡ backs w counts places k

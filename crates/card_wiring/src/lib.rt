@@ -103,13 +103,18 @@ impl<'a> Wiring<'a> {
         over
     }
 
-    // One gate more is followed back from every net.
+    // One gate more is followed back from every net. The card's nets alone are gone over, since there are no pins past them: load and every call for C sweep once for
+    // each level.
     fn sweep(self, old: &[u64; 256]) -> [u64; 256]
         requires { (i : ℕ) → get_or old.now i 0 < 1000 }
         ensures { (k : ℕ) → old.now ≡ backs (λ (h : ℕ). 1) self.entry.counts.now self.entry.places.now k
             → result ≡ backs (λ (h : ℕ). 1) self.entry.counts.now self.entry.places.now (k + 1) }
     {
-        array::from_fn(|g| self.over_pins(old, g))
+        let mut new = [0u64; 256];
+        for g in 0..self.nets {
+            new[g] = self.over_pins(old, g);
+        }
+        new
     }
 
     // The gates counted backwards from every net, followed until nothing changes, at most to one gate more than there are nets.
