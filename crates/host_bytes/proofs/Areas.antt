@@ -1,7 +1,7 @@
 -- Entries of a list written at once, as areas; and entries tested one after another, as a clear place. Assumes nothing.
-use Rattle.std.proofs.Common.{◌≡◌, refl, sym, ap, inl, inr, ◌∙◌, ℕ, zero, suc, ◌+◌, ◌-◌, ◌/◌, ◌%◌, ◌≤◌, ◌<◌, ◌&&◌, nat_eq, List, [], ◌∷◌, ◌++◌, length, get_or, take, drop, set, replicate, min, arith, append_assoc, lit≤}
+use Rattle.std.proofs.Common.{◌≡◌, refl, sym, ap, inl, inr, ◌∙◌, ℕ, zero, suc, ◌+◌, ◌-◌, ◌/◌, ◌%◌, ◌≤◌, ◌<◌, ◌&&◌, nat_eq, List, [], ◌∷◌, ◌++◌, length, get_or, take, drop, set, replicate, arith, append_assoc, lit≤}
 use Rattle.std.specs.List.{list_all, copy_within}
-use Rattle.std.proofs.lemmas.List.{append-nil, take_all, take_at, get_or_past, length-replicate, length-append, length-take-le, length-drop, get_or_append_left, get_or-append_right, get_or-take, get_or-drop, get_or-replicate, drop_all, drop_more, ext_get_or}
+use Rattle.std.proofs.lemmas.List.{length-replicate, length-append, length-take-le, length-drop, get_or_append_left, get_or-append_right, get_or-take, get_or-drop, get_or-replicate, drop_all, drop_more, ext_get_or}
 use native.Mathlib.Decide.{dec_lt}
 use borrow.Rule.Slice.PartMut.{put_mid, Post-is}
 use Rattle.lists.specs.Places.{clear, area}
@@ -82,47 +82,3 @@ clear_all b at to u = go (to - at) at refl
         ap (list_all (λ x. nat_eq x 0)) (drop_more (take to b) i 0 (omega (arith, long)))
         ∙ ap (λ x. nat_eq x 0 && list_all (λ x. nat_eq x 0) (drop (i + 1) (take to b))) (get_or-take to b i 0 (omega arith))
         ∙ ap (λ x. nat_eq (get_or b i 0) 0 && x) (go n (i + 1) (omega arith)) ∙ sym (clear_step b i to (omega arith))
-
--- as many entries of a list as there is room for, and 0 in the rest of it
-module _ (v room x z : List ℕ) (m : ℕ) (few : m ≡ min (length v) (length room)) (copied : x ≡ take m v) where
-  abbrev with_copy : List ℕ
-  with_copy = x ++ drop m room
-
-  abbrev pub left_over : ℕ
-  left_over = length with_copy - m
-
-  module _ (cleared : z ≡ replicate (length (take left_over (drop m with_copy))) 0) where
-    head : length x ≡ m
-    head = omega (arith, ap length copied, length-take-le m v (omega arith))
-
-    long : length with_copy ≡ length room
-    long = omega (arith, length-append x (drop m room), length-drop m room, head)
-
-    rest : take left_over (drop m with_copy) ≡ drop m with_copy
-    rest = take_all left_over (drop m with_copy) (omega (arith, length-drop m with_copy))
-
-    none : drop left_over (drop m with_copy) ≡ []
-    none = drop_all left_over (drop m with_copy) (omega (arith, length-drop m with_copy))
-
-    pub filled_is : put_mid m left_over with_copy z ≡ take m v ++ replicate (length room - m) 0
-    filled_is =
-        let front : take m with_copy ≡ take m v = take_at x (drop m room) m head ∙ copied in
-        let size : length (take left_over (drop m with_copy)) ≡ length room - m = ap length rest ∙ omega (arith, length-drop m with_copy, long) in
-        ap (λ y. y ++ (z ++ drop left_over (drop m with_copy))) front ∙ ap (λ y. take m v ++ (z ++ y)) none ∙ ap (λ y. take m v ++ y) (append-nil z)
-        ∙ ap (λ y. take m v ++ y) cleared ∙ ap (λ k. take m v ++ replicate k 0) size
-
-    pub filled_long : length (put_mid m left_over with_copy z) ≡ length room
-    filled_long =
-        ap length filled_is ∙ omega (arith, length-append (take m v) (replicate (length room - m) 0), length-take-le m v (omega arith), length-replicate {A = ℕ} (length room - m) 0)
-
-    pub filled_at : (i : ℕ) → i < length room → get_or (put_mid m left_over with_copy z) i 0 ≡ get_or v i 0
-    filled_at i l = ap (λ y. get_or y i 0) filled_is ∙ at (dec_lt i m)
-      where
-        size : length (take m v) ≡ m
-        size = length-take-le m v (omega arith)
-
-        at : Dec (i < m) → get_or (take m v ++ replicate (length room - m) 0) i 0 ≡ get_or v i 0
-        at (yes k) = get_or_append_left (take m v) (replicate (length room - m) 0) 0 i (omega (arith, size)) ∙ get_or-take m v i 0 k
-        at (no k) =
-            get_or-append_right (take m v) (replicate (length room - m) 0) m i 0 size (omega arith) ∙ get_or-replicate (length room - m) (i - m) 0 0 (omega arith)
-            ∙ sym (get_or_past v i 0 (omega arith))

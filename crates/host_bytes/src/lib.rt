@@ -2,7 +2,7 @@
 // what stands where. A slice of zeros is the empty session.
 #![tactic(auto)]
 
-ghost use Rattle.std.specs.Prelude.{◌≡◌, ◌≤◌, length};
+ghost use Rattle.std.specs.Prelude.{get_or, ◌≡◌, ◌≤◌, length};
 ghost use Rattle.lists.specs.Places.{clear, area};
 ghost use Rattle.host_bytes.specs.Layout.{session_length};
 ghost use Rattle.host_bytes.specs.Inner.States.{byte_of, state_of, moved_state};
@@ -81,15 +81,22 @@ pub fn is_clear(b: &[u8], from: usize, to: usize) -> bool
     b[..to].iter().skip(from).all(|x| *x == 0)
 }
 
-// The bytes of a list from one place to another, and 0 past its end.
+// The byte of a list at a place, and 0 past its end.
+fn byte_at(v: &[u8], i: usize) -> u8
+    ensures { result ≡ get_or v.now i 0 }
+{
+    v.get(i).copied().unwrap_or(0)
+}
+
+// The bytes of a list from one place to another, and 0 past its end. Not by `copy_from_slice`: of what C lends it makes a call of `memmove`, which the archive for C
+// would need from outside.
 fn put_area(b: &mut [u8], at: usize, to: usize, v: &[u8])
     requires { (at ≤ to) × (to ≤ length b.old) }
     ensures { b.new ≡ area b.old at to v.now }
 {
-    let room = &mut b[at..to];
-    let n = v.len().min(room.len());
-    room[..n].copy_from_slice(&v[..n]);
-    room[n..].fill(0);
+    for i in at..to {
+        b[i] = byte_at(v, i - at);
+    }
 }
 
 // That the bytes are as long as a session is asked in a clause of each function and by no type: `host` tests it once, of the slice that C lends, and one struct over
