@@ -1,6 +1,7 @@
 -- `bench::do_first` meets its contract: the entries' steps are run from the before values and the inputs' new ones; a part leaves the session,
 -- the whole list moves it. Assumes nothing.
 use mathlib.Core.Path.{◌≡◌, refl, sym, ◌∙◌, subst}
+use native.Mathlib.Omega.{arith}
 use Rattle.lists.specs.Listed.{listed}
 use Rattle.inputs.specs.Inputs.{given}
 use Rattle.card.specs.Held.{HasCard}
@@ -40,8 +41,8 @@ run_order-count-requires c =
     let h = card (goal.at.run_order-count-requires c).Start in
     let t = c.requires.taken in
     record {
-      order = (entry_low a.s.now h _ _ a.list.total a.order.now t a.first, subst Words (sym c.start-vars.ensures) (start_words _ _ _));
-      doable = rw c.wiring.ensures.0 (first_doable a.s.now h _ _ a.list.total a.order.now t a.first c.requires.first_le_total.0);
+      order = (entry_low a.s.now h _ _ a.list.total a.order.now t _, subst Words (sym c.start-vars.ensures) (start_words _ _ _));
+      doable = rw c.wiring.ensures.0 (first_doable a.s.now h _ _ a.list.total a.order.now t _ (omega (arith, c.requires.first_le_total.0)));
     }
 
 pub among-done-requires : goal.among-done-requires
