@@ -3,8 +3,8 @@ ghost use Rattle.std.specs.Prelude.{◌≡◌, ◌+◌, ◌≤◌, set};
 ghost use Rattle.drill.specs.Inner.Kept.{slot};
 
 use rule::{Answer, NetAnswer};
-use std::fmt::Display;
-use std::io::{Stdout, Write};
+use std::fmt::{Display, Write as _};
+use std::io::{Stdout, Write as _};
 use std::{fmt, io, mem};
 use step_records::StepRecord;
 
@@ -41,17 +41,21 @@ pub struct Output<'a> {
     ghost within: { at ≤ 8192 },
 }
 
-impl Write for Output<'_> {
-    // Takes all of the bytes.
-    fn write(&mut self, bytes: &[u8]) -> io::Result<usize> {
-        for b in bytes {
-            self.put(*b);
+impl fmt::Write for Output<'_> {
+    // Takes all of the text, at once where it fits.
+    fn write_str(&mut self, text: &str) -> fmt::Result {
+        let bytes = text.as_bytes();
+        let at = self.at;
+        let n = bytes.len();
+        if n <= 8192 - at {
+            let room = &mut *self.room;
+            room[at..at + n].copy_from_slice(bytes);
+            self.at = at + n;
+        } else {
+            for b in bytes {
+                self.put(*b);
+            }
         }
-        Ok(bytes.len())
-    }
-
-    fn flush(&mut self) -> io::Result<()> {
-        self.write_out();
         Ok(())
     }
 }
@@ -100,17 +104,33 @@ impl<'a> Output<'a> {
     // What an operation answers: its number, and its count, which is 0 for a refusal.
     pub fn put_answer(&mut self, answer: Answer) {
         let number = rule::number(&answer);
-        let count = answer.unwrap_or(0);
+        let count = rule::answer_count(answer);
         let _ = write!(self, "{number} {count}");
     }
 
     // What the question about a net answers, with level and word.
     pub fn put_net(&mut self, answer: NetAnswer) {
         let number = rule::number(&answer);
-        let facts = answer.unwrap_or_default();
-        let level = facts.level;
-        let word = Hex(facts.word);
+        let level = rule::net_level(answer);
+        let word = Hex(rule::net_word(answer));
         let _ = write!(self, "{number} 0 {level} {word}");
+    }
+
+    // A word, in hex.
+    fn put_hex(&mut self, n: u64) {
+        if n >= 16 {
+            self.put_hex(n / 16);
+        }
+        self.put(b"0123456789abcdef"[(n % 16) as usize]);
+    }
+
+    // A lent room of words. By hand, not by `put_room` and `Hex`: by these it takes two and a half to three times as long.
+    pub fn put_words(&mut self, room: &[u64]) {
+        let _ = write!(self, " |");
+        for word in room {
+            self.put(b' ');
+            self.put_hex(*word);
+        }
     }
 
     // A lent room, entry by entry, each as it is shown.

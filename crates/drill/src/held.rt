@@ -1,5 +1,5 @@
 // A session that keeps what the operations ask of it.
-ghost use Rattle.std.specs.Prelude.{◌≡◌};
+ghost use Rattle.std.specs.Prelude.{◌≡◌, ◌≤◌};
 ghost use Rattle.card.specs.Asked.{net_asked};
 ghost use Rattle.card.specs.Session.{none};
 ghost use Rattle.operations.specs.Operated.{operated};
@@ -8,6 +8,7 @@ ghost use Rattle.history.specs.Told.{history_of};
 ghost use Rattle.step_list.specs.Listing.{list_of};
 ghost use Rattle.step_records.specs.Records.{records_of};
 ghost use Rattle.trace.specs.Traced.{trace_of};
+ghost use Rattle.drill.specs.Inner.Rooms.{lent_records, recorded_in};
 
 use card::Session;
 use operations::Move;
@@ -75,6 +76,14 @@ impl Held {
         ensures { record { answer = result; room = room.new } ≡ records_of self.now room.old }
     {
         step_records::list_records(&self.session, room)
+    }
+
+    // The step list into the first n of a room of 20,000 records, each of which is 170:170 before the call.
+    pub fn record_list(&self, n: usize, room: &mut [StepRecord; 20000]) -> Answer
+        requires { (n ≤ 20000) × (room.old ≡ lent_records 20000) }
+        ensures { record { answer = result; room = room.new } ≡ recorded_in self.now n }
+    {
+        self.records(&mut room[..n])
     }
 
     pub fn trace(&self, n: u64, t: u64, room: &mut [u16]) -> Answer

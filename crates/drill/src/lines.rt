@@ -4,7 +4,7 @@ ghost use Rattle.drill_words.specs.Parts.{words};
 ghost use Rattle.drill_words.specs.Digits.{bytes_of};
 ghost use Rattle.drill_words.specs.Filled.{Filled};
 
-use crate::answers::{Hex, Output, Step};
+use crate::answers::{Output, Step};
 use crate::held::Held;
 use drill_text::Command;
 use operations::{Engine, Move};
@@ -67,7 +67,7 @@ impl<'a> Drill<'a> {
         let flags = &mut flags[..c as usize];
         let answer = self.held.history(words, befores, flags);
         self.answers.put_answer(answer);
-        self.answers.put_room(words, |word| Hex(*word));
+        self.answers.put_words(words);
         self.answers.put_room(befores, |value| *value);
         self.answers.put_room(flags, |flag| *flag);
     }
@@ -94,10 +94,10 @@ impl<'a> Drill<'a> {
             net: 170,
             time: 170,
         }; 20000];
-        let records = &mut records[..n as usize];
-        let answer = self.held.records(records);
+        let n = n as usize;
+        let answer = self.held.record_list(n, &mut records);
         self.answers.put_answer(answer);
-        self.answers.put_room(records, |step| Step(*step));
+        self.answers.put_room(&records[..n], |step| Step(*step));
     }
 
     // trace N TIME ROOM
